@@ -1,0 +1,3 @@
+pub mod BitVector
+pub mod Catalogue
+pub mod Digits

@@ -1,0 +1,10 @@
+pub mod Member
+pub mod Graph
+pub mod Renumber
+pub mod Lawful
+pub mod Tree
+pub mod Operators
+pub mod Weight
+pub mod Checked
+pub mod Occurrences
+pub mod FlatGraph

@@ -18,7 +18,7 @@ pub enum ReadStop {
     NoMemory,
 }
 
-/// All bytes that are left, read to the end, at most `limit` of them. It fails where a read fails, where more than
+/// All bytes that are left, read to the end, at most `limit` of them. It stops where a read fails, where more than
 /// `limit` bytes were given, or where memory runs out; the bytes given so far are then gone.
 pub fn read_all<S: Source>(alloc: Global, from: &mut S, limit: usize) -> Result<Vec<u8>, ReadStop>
     ensures all { IfOk result (λ bytes. Holds (S.left from.old) bytes.items) }
@@ -49,7 +49,7 @@ pub fn read_all<S: Source>(alloc: Global, from: &mut S, limit: usize) -> Result<
     }
 }
 
-/// Hands all bytes to the sink, in their order. It fails where a write fails; a front of the bytes was then taken.
+/// Hands all bytes to the sink, in their order. It fails where a write fails, and a front of the bytes was taken then.
 /// It takes no memory.
 #[tactic(auto, using(crate::proofs::Sent::sent_none, crate::proofs::Sent::sent_more, crate::proofs::Sent::sent_kept, crate::proofs::Sent::sent_all))]
 pub fn write_all<K: Sink>(to: &mut K, bytes: &[u8]) -> Result<(), Failed>

@@ -1,5 +1,5 @@
 ghost use Rattle.std.specs.Prelude.{◌≡◌, ◌-◌, ◌<◌, ◌≤◌, ◌⊎◌, ◌↔◌, ◌++◌, [], length, min, take, drop, Some, IfOk, IsErr, OnErr, Contains};
-ghost use Rattle.hc_outside.specs.Causes.{HasCause, CountsFailure, raised};
+ghost use Rattle.hc_outside.specs.Causes.{HasCause, raised};
 ghost use Rattle.hc_outside.specs.Moves.{Reads, Writes};
 ghost use Rattle.hc_outside.specs.Memory.{IsFull, free};
 
@@ -9,7 +9,7 @@ use hc_fault::NoMemory;
 use std::alloc::Global;
 use std::marker::Model;
 
-/// A source in memory: it gives its bytes in order, at most `cut` of them a call, and some calls fail.
+/// A source in memory: it gives its bytes in order, at most `cut` of them a call, and fails at the calls it was told.
 #[derive(Drop)]
 pub struct MemSource {
     bytes: Vec<u8>,
@@ -84,7 +84,7 @@ impl Source for MemSource {
     ghost faults = { λ source. source.faults };
 
     /// Gives the next bytes: all that are left, or as many as fit into `buf`, or `cut`, whichever is least. A call
-    /// fails exactly where its number is in the list; the bytes stay, and so does `buf`.
+    /// fails exactly where its number is in the list; it then takes no byte and leaves `buf` as it was.
     fn read(&mut self, buf: &mut [u8]) -> Result<usize, Failed>
         requires { 0 < length buf.old }
         ensures fails { IsErr result ↔ Contains self.old.failing self.old.calls }
@@ -112,7 +112,8 @@ impl Source for MemSource {
     }
 }
 
-/// A sink in memory: it takes bytes until its room is full, at most `cut` of them a call, and some calls fail.
+/// A sink in memory: it takes bytes until its room is full, at most `cut` of them a call, and fails at the calls it
+/// was told.
 #[derive(Drop)]
 pub struct MemSink {
     bytes: Vec<u8>,
@@ -143,7 +144,7 @@ impl Model for MemSink {
 
 impl MemSink {
     /// A sink with room for `room` bytes, which are reserved here. The calls whose number, from 0, is in `failing`
-    /// fail, and no call takes more than `cut` bytes, which is at least 1.
+    /// fail, and no call takes more than `cut` bytes, which is at least 1. It is refused only for want of memory.
     pub fn new(
         alloc: Global,
         room: usize,
@@ -185,7 +186,7 @@ impl Sink for MemSink {
     ghost faults = { λ sink. sink.faults };
 
     /// Takes the front of the piece: all of it, or as much as the room still holds, or `cut` bytes, whichever is
-    /// least. A call fails exactly where its number is in the list or the room is full; nothing is taken.
+    /// least. A call fails exactly where its number is in the list or the room is full; it then takes nothing.
     fn write(&mut self, piece: &[u8]) -> Result<usize, Failed>
         requires { 0 < length piece.now }
         ensures fails { IsErr result ↔ (Contains self.old.failing self.old.calls ⊎ IsFull self.old) }

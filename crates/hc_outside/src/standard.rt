@@ -7,7 +7,7 @@ use crate::traits::{Failed, Sink, Source};
 use std::io::{Read, Write};
 use std::marker::Model;
 
-/// A reader of std as a source, as standard input. It tells the bytes that are left where the reader does.
+/// A reader of std as a source. It tells the bytes that are left where the reader does; standard input tells none.
 #[derive(Drop)]
 pub struct StdSource<I> {
     inner: I,
@@ -41,7 +41,7 @@ impl<I: Read> Source for StdSource<I> {
 
     ghost faults = { λ source. source.faults };
 
-    /// Reads once. It fails where the reader does.
+    /// Reads once. It fails where the reader does, and counts that.
     fn read(&mut self, buf: &mut [u8]) -> Result<usize, Failed>
         requires { 0 < length buf.old }
         ensures bytes { Reads (I.remaining self.old.inner) (I.remaining self.new.inner) result buf.new }
@@ -58,7 +58,7 @@ impl<I: Read> Source for StdSource<I> {
     }
 }
 
-/// A writer of std as a sink, as standard output. It tells the bytes that were taken where the writer does.
+/// A writer of std as a sink. It tells the bytes that were taken where the writer does; standard output tells none.
 #[derive(Drop)]
 pub struct StdSink<O> {
     inner: O,
@@ -92,7 +92,7 @@ impl<O: Write> Sink for StdSink<O> {
 
     ghost faults = { λ sink. sink.faults };
 
-    /// Writes once. It fails where the writer does, and where the writer takes nothing.
+    /// Writes once. It fails where the writer does or takes nothing, and counts that.
     fn write(&mut self, piece: &[u8]) -> Result<usize, Failed>
         requires { 0 < length piece.now }
         ensures bytes { Writes (O.contents self.old.inner) (O.contents self.new.inner) result piece.now }

@@ -1,6 +1,6 @@
-ghost use Rattle.std.specs.Prelude.{◌≡◌, ◌-◌, ◌^◌};
+ghost use Rattle.std.specs.Prelude.{◌≡◌, ◌≤◌, ◌<◌, ◌+◌, ◌-◌, ◌*◌, ◌/◌, ◌%◌, ◌^◌, length, min, slice_get};
 ghost use Rattle.std.specs.Option.{SomeIff};
-ghost use Rattle.hc_bits.specs.BitVector.{BitVector, IsBitVector, IsWidth, from_i64};
+ghost use Rattle.hc_bits.specs.BitVector.{BitVector, IsBitVector, IsWidth, from_i64, signed, bit, add, sub, and_, or_, xor_, eq_bit, lt_bit, mulu, muls, not_, select, cat, mux};
 
 use std::marker::Model;
 
@@ -53,6 +53,28 @@ impl Bits {
         }
     }
 
+    /// The lowest bits of a value.
+    #[tactic(auto, using(std::proofs::lemmas::Nat::and_mask))]
+    fn lowest(width: u32, value: u128) -> Bits
+        requires { IsWidth width }
+        ensures { result ≡ record { width = width; value = value % 2 ^ width } }
+    {
+        Bits {
+            width,
+            value: value & mask(width),
+        }
+    }
+
+    /// One bit, 1 where the test holds.
+    fn bit(holds: bool) -> Bits
+        ensures { result ≡ bit holds }
+    {
+        Bits {
+            width: 1,
+            value: u128::from(holds),
+        }
+    }
+
     /// The width in bits.
     pub fn width(self) -> u32
         ensures { result ≡ self.width }
@@ -66,9 +88,150 @@ impl Bits {
     {
         self.value
     }
+
+    /// The sum, modulo 2^width, of two operands of one width.
+    #[tactic(auto, using(crate::proofs::Masks::low_of_wrapped))]
+    pub fn add(self, other: Bits) -> Bits
+        requires { self.width ≡ other.width }
+        ensures { result ≡ add self other }
+    {
+        Bits::lowest(self.width, self.value.wrapping_add(other.value))
+    }
+
+    /// The difference, modulo 2^width, of two operands of one width.
+    #[tactic(auto, using(crate::proofs::Masks::low_of_wrapped, crate::proofs::Masks::low_of_difference))]
+    pub fn sub(self, other: Bits) -> Bits
+        requires { self.width ≡ other.width }
+        ensures { result ≡ sub self other }
+    {
+        Bits::lowest(self.width, self.value.wrapping_sub(other.value))
+    }
+
+    /// The bitwise and of two operands of one width.
+    pub fn and(self, other: Bits) -> Bits
+        requires { self.width ≡ other.width }
+        ensures { result ≡ and_ self other }
+    {
+        Bits {
+            width: self.width,
+            value: self.value & other.value,
+        }
+    }
+
+    /// The bitwise or of two operands of one width.
+    #[tactic(auto, using(std::proofs::lemmas::Nat::or_lt))]
+    pub fn or(self, other: Bits) -> Bits
+        requires { self.width ≡ other.width }
+        ensures { result ≡ or_ self other }
+    {
+        Bits {
+            width: self.width,
+            value: self.value | other.value,
+        }
+    }
+
+    /// The bitwise exclusive or of two operands of one width.
+    #[tactic(auto, using(std::proofs::lemmas::Nat::xor_lt))]
+    pub fn xor(self, other: Bits) -> Bits
+        requires { self.width ≡ other.width }
+        ensures { result ≡ xor_ self other }
+    {
+        Bits {
+            width: self.width,
+            value: self.value ^ other.value,
+        }
+    }
+
+    /// One bit, 1 where two operands of one width are equal.
+    pub fn eq_bit(self, other: Bits) -> Bits
+        requires { self.width ≡ other.width }
+        ensures { result ≡ eq_bit self other }
+    {
+        Bits::bit(self.value == other.value)
+    }
+
+    /// One bit, 1 where the first of two operands of one width is the lesser, unsigned.
+    pub fn lt_bit(self, other: Bits) -> Bits
+        requires { self.width ≡ other.width }
+        ensures { result ≡ lt_bit self other }
+    {
+        Bits::bit(self.value < other.value)
+    }
+
+    /// The unsigned product, as wide as both operands together: at most 128 bits.
+    #[tactic(auto, using(crate::proofs::Masks::product_fits, crate::proofs::Masks::product_below))]
+    pub fn mulu(self, other: Bits) -> Bits
+        requires { self.width + other.width ≤ 128 }
+        ensures { result ≡ mulu self other }
+    {
+        Bits {
+            width: self.width + other.width,
+            value: self.value * other.value,
+        }
+    }
+
+    /// The product of two's complement numbers, as wide as both operands together: at most 128
+    /// bits.
+    pub fn muls(self, other: Bits) -> Bits
+        requires { self.width + other.width ≤ 128 }
+        ensures { result ≡ muls self other }
+    {
+        let width = self.width + other.width;
+        let product = self.signed() * other.signed();
+        Bits::lowest(width, product.cast_unsigned())
+    }
+
+    /// The two's complement number of the bits.
+    fn signed(self) -> i128
+        ensures { result ≡ signed self }
+    {
+        let unused = 128 - self.width;
+        (self.value << unused).cast_signed() >> unused
+    }
+
+    /// Each bit turned over.
+    #[tactic(auto, using(crate::proofs::Masks::low_of_not))]
+    pub fn not(self) -> Bits
+        ensures { result ≡ not_ self }
+    {
+        Bits::lowest(self.width, !self.value)
+    }
+
+    /// The bits from `hi` down to `lo`, both included; the lowest bit is number 0.
+    pub fn select(self, hi: u32, lo: u32) -> Bits
+        requires order { lo ≤ hi }
+        requires within { hi < self.width }
+        ensures { result ≡ select self hi lo }
+    {
+        Bits::lowest(hi - lo + 1, self.value >> lo)
+    }
+
+    /// These bits above those of `low`: at most 128 bits.
+    #[tactic(auto, using(crate::proofs::Masks::cat_is, crate::proofs::Masks::cat_below))]
+    pub fn cat(self, low: Bits) -> Bits
+        requires { self.width + low.width ≤ 128 }
+        ensures { result ≡ cat self low }
+    {
+        Bits {
+            width: self.width + low.width,
+            value: self.value << low.width | low.value,
+        }
+    }
+
+    /// The case at the place that the value says, and the last one where it is past the end.
+    pub fn mux(self, cases: &[Bits]) -> Bits
+        requires { 1 ≤ length cases.now }
+        ensures value { result ≡ mux self cases.now }
+        ensures place { slice_get cases.now (min self.value (length cases.now - 1)) ≡ Some result }
+    {
+        let last = cases.len() - 1;
+        let place = self.value.min(last as u128) as usize;
+        cases[place]
+    }
 }
 
 /// The greatest value of a width: that many ones.
+
 #[tactic(auto, using(crate::proofs::Masks::shifted_ones))]
 fn mask(width: u32) -> u128
     requires { IsWidth width }

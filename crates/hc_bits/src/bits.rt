@@ -1,7 +1,10 @@
-ghost use Rattle.std.specs.Prelude.{◌≡◌, ◌≤◌, ◌<◌, ◌+◌, ◌-◌, ◌*◌, ◌/◌, ◌%◌, ◌^◌, length, min, slice_get};
+ghost use Rattle.std.specs.Prelude.{◌≡◌, ◌≤◌, ◌<◌, ◌+◌, ◌-◌, ◌*◌, ◌/◌, ◌%◌, ◌^◌, [], ◌∷◌, length, min, slice_get};
 ghost use Rattle.std.specs.Option.{SomeIff};
 ghost use Rattle.hc_bits.specs.BitVector.{BitVector, IsBitVector, IsWidth, from_i64, signed, bit, add, sub, and_, or_, xor_, eq_bit, lt_bit, mulu, muls, not_, select, cat, mux};
+ghost use Rattle.hc_bits.specs.Catalogue.{operation, bits_of};
+ghost use Rattle.hc_bits.specs.declared.kind.OpKind.TheVariants.{Popcount, Clz, Rev, Min, Max, SatAdd};
 
+use crate::kind::bits_of;
 use std::marker::Model;
 
 /// A number of a stated width, from 1 to 128 bits. Its value is below 2^width.
@@ -29,7 +32,7 @@ impl Bits {
     pub fn new(width: u32, value: u128) -> Option<Bits>
         ensures { let v : BitVector = record { width = width; value = value } in SomeIff result (IsBitVector v) v }
     {
-        if 1 <= width && width <= 128 && value <= mask(width) {
+        if (1..=128).contains(&width) && value <= mask(width) {
             Some(Bits { width, value })
         } else {
             None
@@ -53,7 +56,7 @@ impl Bits {
         }
     }
 
-    /// The lowest bits of a value.
+    /// As many of the lowest bits of a value as the width says.
     #[tactic(auto, using(std::proofs::lemmas::Nat::and_mask))]
     fn lowest(width: u32, value: u128) -> Bits
         requires { IsWidth width }
@@ -75,16 +78,31 @@ impl Bits {
         }
     }
 
-    /// The width in bits.
+    /// A number of bits among those of a width, in the bits that the width itself needs.
+    #[tactic(auto, using(crate::proofs::Counts::count_width))]
+    fn count(width: u32, number: u32) -> Bits
+        requires width { IsWidth width }
+        requires most { number ≤ width }
+        ensures { result ≡ record { width = bits_of width; value = number } }
+    {
+        Bits {
+            width: bits_of(u64::from(width)),
+            value: u128::from(number),
+        }
+    }
+
+    /// The width in bits, from 1 to 128.
     pub fn width(self) -> u32
-        ensures { result ≡ self.width }
+        ensures width { result ≡ self.width }
+        ensures lawful { IsBitVector self }
     {
         self.width
     }
 
-    /// The value, unsigned.
+    /// The value, unsigned, below 2^width.
     pub fn value(self) -> u128
-        ensures { result ≡ self.value }
+        ensures value { result ≡ self.value }
+        ensures lawful { IsBitVector self }
     {
         self.value
     }
@@ -185,7 +203,7 @@ impl Bits {
     fn signed(self) -> i128
         ensures { result ≡ signed self }
     {
-        let unused = 128 - self.width;
+        let unused = u128::BITS - self.width;
         (self.value << unused).cast_signed() >> unused
     }
 
@@ -228,6 +246,68 @@ impl Bits {
         let place = self.value.min(last as u128) as usize;
         cases[place]
     }
+
+    /// The number of ones, in the bits that the width itself needs.
+    #[tactic(auto, using(crate::proofs::Counts::popcount_is, crate::proofs::Counts::ones_within))]
+    pub fn popcount(self) -> Bits
+        ensures { result ≡ operation Popcount (self ∷ []) }
+    {
+        Bits::count(self.width, self.value.count_ones())
+    }
+
+    /// The number of zeros above the highest one, in the bits that the width itself needs; the
+    /// width for 0.
+    #[tactic(auto, using(crate::proofs::Counts::leading_zeros_is, crate::proofs::Counts::unused_zeros, crate::proofs::Counts::zeros_within))]
+    pub fn leading_zeros(self) -> Bits
+        ensures { result ≡ operation Clz (self ∷ []) }
+    {
+        let unused = u128::BITS - self.width;
+        Bits::count(self.width, self.value.leading_zeros() - unused)
+    }
+
+    /// The bits in the other order.
+    #[tactic(auto, using(crate::proofs::Counts::reversed_is, crate::proofs::Counts::reversed_below))]
+    pub fn reverse(self) -> Bits
+        ensures { result ≡ operation Rev (self ∷ []) }
+    {
+        Bits {
+            width: self.width,
+            value: self.value.reverse_bits() >> (u128::BITS - self.width),
+        }
+    }
+
+    /// The lesser of two numbers of one width, unsigned.
+    pub fn min(self, other: Bits) -> Bits
+        requires { self.width ≡ other.width }
+        ensures { result ≡ operation Min (self ∷ other ∷ []) }
+    {
+        Bits {
+            width: self.width,
+            value: self.value.min(other.value),
+        }
+    }
+
+    /// The greater of two numbers of one width, unsigned.
+    pub fn max(self, other: Bits) -> Bits
+        requires { self.width ≡ other.width }
+        ensures { result ≡ operation Max (self ∷ other ∷ []) }
+    {
+        Bits {
+            width: self.width,
+            value: self.value.max(other.value),
+        }
+    }
+
+    /// The sum of two numbers of one width, and the greatest value where it is above that.
+    pub fn saturating_add(self, other: Bits) -> Bits
+        requires { self.width ≡ other.width }
+        ensures { result ≡ operation SatAdd (self ∷ other ∷ []) }
+    {
+        Bits {
+            width: self.width,
+            value: self.value.saturating_add(other.value).min(mask(self.width)),
+        }
+    }
 }
 
 /// The greatest value of a width: that many ones.
@@ -237,5 +317,5 @@ fn mask(width: u32) -> u128
     requires { IsWidth width }
     ensures { result ≡ 2 ^ width - 1 }
 {
-    u128::MAX >> (128 - width)
+    u128::MAX >> (u128::BITS - width)
 }

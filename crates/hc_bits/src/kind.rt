@@ -31,6 +31,20 @@ impl OpKind {
         }
     }
 
+    /// Its name.
+    pub fn name(self) -> &'static [u8]
+        ensures { result.now ≡ operation_name self }
+    {
+        match self {
+            OpKind::Popcount => b"popcount",
+            OpKind::Clz => b"clz",
+            OpKind::Rev => b"rev",
+            OpKind::Min => b"min",
+            OpKind::Max => b"max",
+            OpKind::SatAdd => b"satadd",
+        }
+    }
+
     /// The number of arguments, all of one width.
     pub fn arity(self) -> u32
         ensures { result ≡ arity self }
@@ -47,7 +61,7 @@ impl OpKind {
         ensures { result ≡ result_width self width }
     {
         match self {
-            OpKind::Popcount | OpKind::Clz => bits_of(width as u64),
+            OpKind::Popcount | OpKind::Clz => bits_of(u64::from(width)),
             OpKind::Rev | OpKind::Min | OpKind::Max | OpKind::SatAdd => width,
         }
     }

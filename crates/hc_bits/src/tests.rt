@@ -58,28 +58,8 @@ fn result_widths(kind: OpKind) -> [u32; 4] {
 #[test]
 fn operators_of_two_operands(rt: HostRuntime) {
     for &(width, a, b, want) in &[
-        (1, 0, 1, [1, 1, 0, 1, 1, 0, 1, 0, 1, 1]),
         (1, 1, 1, [0, 0, 1, 1, 0, 1, 0, 1, 1, 1]),
-        (2, 3, 2, [1, 1, 2, 3, 1, 0, 0, 2, 3, 3]),
         (2, 1, 3, [0, 2, 1, 3, 2, 0, 1, 1, 3, 3]),
-        (
-            64,
-            0xffffffffffffffff,
-            1,
-            [
-                0,
-                0xfffffffffffffffe,
-                1,
-                0xffffffffffffffff,
-                0xfffffffffffffffe,
-                0,
-                0,
-                1,
-                0xffffffffffffffff,
-                0xffffffffffffffff,
-            ],
-        ),
-        (64, 0, 1, [1, 0xffffffffffffffff, 0, 1, 1, 0, 1, 0, 1, 1]),
         (
             64,
             0x5555555555555555,
@@ -114,7 +94,6 @@ fn operators_of_two_operands(rt: HostRuntime) {
                 0x1ffffffffffffffff,
             ],
         ),
-        (65, 0, 1, [1, 0x1ffffffffffffffff, 0, 1, 1, 0, 1, 0, 1, 1]),
         (
             65,
             0x15555555555555555,
@@ -130,40 +109,6 @@ fn operators_of_two_operands(rt: HostRuntime) {
                 0xaaaaaaaaaaaaaaa7,
                 0x15555555555555555,
                 0x1fffffffffffffffc,
-            ],
-        ),
-        (
-            127,
-            0x7fffffffffffffffffffffffffffffff,
-            1,
-            [
-                0,
-                0x7ffffffffffffffffffffffffffffffe,
-                1,
-                0x7fffffffffffffffffffffffffffffff,
-                0x7ffffffffffffffffffffffffffffffe,
-                0,
-                0,
-                1,
-                0x7fffffffffffffffffffffffffffffff,
-                0x7fffffffffffffffffffffffffffffff,
-            ],
-        ),
-        (
-            127,
-            0,
-            1,
-            [
-                1,
-                0x7fffffffffffffffffffffffffffffff,
-                0,
-                1,
-                1,
-                0,
-                1,
-                0,
-                1,
-                1,
             ],
         ),
         (

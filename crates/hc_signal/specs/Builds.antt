@@ -56,20 +56,26 @@ with_row g row = record g { nodes = g.nodes ++ row ∷ [] }
 abbrev pub AddsNode : Graph → ℕ → Node → Graph → NodeId → Type 0
 AddsNode old width node new id = (new ≡ with_row old (unlabelled width node)) × (id.0 ≡ length old.nodes)
 
+-- it stands for no port: neither an input nor an output of an instance
+abbrev pub is_inner : Node → Bool
+is_inner (Input port) = false
+is_inner (InstOut i port) = false
+is_inner other = true
+
 abbrev pub port : Name → ℕ → Port
 port name width = record { name = name; width = width }
 
 -- one input port more, and its node
 abbrev pub AddsInput : Graph → Name → ℕ → Graph → NodeId → Type 0
 AddsInput old name width new id =
-  (new ≡ with_row (record old { ports = record { inputs = old.ports.inputs ++ port name width ∷ []; outputs = old.ports.outputs } }) (unlabelled width (Input (length old.ports.inputs))))
-  × (id.0 ≡ length old.nodes)
+    (new ≡ with_row (record old { ports = record { inputs = old.ports.inputs ++ port name width ∷ []; outputs = old.ports.outputs } }) (unlabelled width (Input (length old.ports.inputs))))
+    × (id.0 ≡ length old.nodes)
 
 -- one output port more, and its wire
 abbrev pub AddsOutput : Graph → Name → ℕ → Graph → NodeId → Type 0
 AddsOutput old name width new id =
-  (new ≡ with_row (record old { ports = record { inputs = old.ports.inputs; outputs = old.ports.outputs ++ port name width ∷ [] }; outputs = old.outputs ++ id ∷ [] }) (unlabelled width (Wire None)))
-  × (id.0 ≡ length old.nodes)
+    (new ≡ with_row (record old { ports = record { inputs = old.ports.inputs; outputs = old.ports.outputs ++ port name width ∷ [] }; outputs = old.outputs ++ id ∷ [] }) (unlabelled width (Wire None)))
+    × (id.0 ≡ length old.nodes)
 
 -- ---- changed rows
 
@@ -96,5 +102,11 @@ abbrev pub is_driven : Option NodeRow → Bool
 is_driven None = false
 is_driven (Some row) = is_some (driver_of row.node)
 
+abbrev pub is_driven_at : Graph → NodeId → Bool
+is_driven_at g id = is_driven (slice_get g.nodes id.0)
+
+abbrev pub driven_from : NodeId → NodeRow → NodeRow
+driven_from from row = record row { node = Wire (Some from) }
+
 abbrev pub with_driver : Graph → NodeId → NodeId → Graph
-with_driver g wire from = record g { nodes = change_at (λ row. record row { node = Wire (Some from) }) wire.0 g.nodes }
+with_driver g wire from = record g { nodes = change_at (driven_from from) wire.0 g.nodes }

@@ -1,4 +1,5 @@
 ghost use Rattle.std.specs.Prelude.{◌≡◌, ◌+◌, ◌≤◌, [], length};
+ghost use Rattle.hc_bits.specs.BitVector.{IsWidth};
 ghost use Rattle.hc_signal.specs.Graph.{Graph};
 ghost use Rattle.hc_signal.specs.Tree.{empty};
 ghost use Rattle.hc_signal.specs.Weight.{graph_weight};
@@ -11,6 +12,7 @@ use hc_fault::ItemList;
 use std::alloc::Global;
 use std::marker::Model;
 
+mod nodes;
 
 /// A circuit under construction. It is lawful after each call, and a refused call leaves it as it was.
 #[derive(Drop)]
@@ -69,7 +71,8 @@ impl Builder {
     /// The width of a node, in bits.
     pub fn width(&self, id: NodeId) -> u32
         requires { IsNode self.now id }
-        ensures { result ≡ width_at self.now id }
+        ensures value { result ≡ width_at self.now id }
+        ensures range { IsWidth result }
     {
         self.nodes[id.0 as usize].width
     }

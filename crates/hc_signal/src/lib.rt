@@ -3,6 +3,7 @@
 
 mod builder;
 mod circuit;
+mod rules;
 mod signal;
 mod stop;
 

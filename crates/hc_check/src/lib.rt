@@ -8,3 +8,6 @@ mod undriven;
 
 pub use laws::one_verdict;
 pub use rules::{CheckStop, check};
+
+#[cfg(test)]
+mod tests;

@@ -10,3 +10,6 @@ mod waiting;
 pub use depth_first::walk;
 pub use laws::one_walk;
 pub use vertex::VertexId;
+
+#[cfg(test)]
+mod tests;

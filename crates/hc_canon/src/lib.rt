@@ -1,0 +1,8 @@
+//! Canonical forms: circuits numbered by a walk from their outputs, so that isomorphic circuits become equal.
+#![tactic(auto)]
+
+mod canon_form;
+mod form;
+
+pub use canon_form::canon;
+pub use form::{EntryId, Form};

@@ -1,0 +1,15 @@
+pub mod Members
+pub mod Renumbered
+pub mod Isomorphisms
+pub mod Walks
+pub mod Canonical
+pub mod InRange
+pub mod Finite
+pub mod LaidOut
+pub mod Counting
+pub mod Fits
+pub mod Transport
+pub mod Carried
+pub mod Walking
+pub mod Waits
+pub mod Picks

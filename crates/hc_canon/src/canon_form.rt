@@ -3,7 +3,10 @@ ghost use Rattle.hc_canon.specs.FormView.{IsCanonOf};
 ghost use Rattle.hc_signal.specs.Checked.{IsChecked};
 
 use crate::form::{EntryId, Form};
-use hc_fault::NoMemory;
+use crate::layout::{lay_out, pick_kids};
+use crate::numbers::{numbers_of, order_of};
+use crate::walk::walk;
+use hc_fault::{ItemList, NoMemory};
 use hc_signal::Circuit;
 use std::alloc::Global;
 
@@ -14,8 +17,12 @@ pub fn canon(alloc: Global, circuit: &Circuit, kids: &[EntryId]) -> Result<Form,
     requires kids { length kids.now ≡ length circuit.now.instances }
     ensures { IfOk result (λ form. IsCanonOf circuit.now kids.now form) }
 {
-    let _ = alloc;
-    let _ = circuit;
-    let _ = kids;
-    Err(NoMemory)
+    circuit.lawful();
+    let met = walk(alloc, circuit)?;
+    let met = met.as_slice();
+    let order = order_of(alloc, circuit, met)?;
+    let numbers = numbers_of(alloc, circuit, met, &order)?;
+    let made = lay_out(alloc, circuit, met, &order, &numbers)?;
+    let kids = pick_kids(alloc, kids, order.instances.as_slice())?;
+    Ok(Form::of_parts(made, ItemList::from_vec(kids)))
 }

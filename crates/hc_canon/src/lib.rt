@@ -3,6 +3,11 @@
 
 mod canon_form;
 mod form;
+mod layout;
+mod numbers;
+mod renumber;
+mod waiting;
+mod walk;
 
 pub use canon_form::canon;
 pub use form::{EntryId, Form};

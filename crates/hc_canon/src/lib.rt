@@ -2,6 +2,7 @@
 #![tactic(auto)]
 
 mod canon_form;
+mod equal;
 mod form;
 mod layout;
 mod numbers;
@@ -10,4 +11,5 @@ mod waiting;
 mod walk;
 
 pub use canon_form::canon;
+pub use equal::same;
 pub use form::{EntryId, Form};

@@ -87,92 +87,76 @@ impl Compare for Ports {
 
 impl Compare for Node {
     fn same(&self, other: &Node) -> bool {
-        match self {
-            Node::Input { port } => match other {
-                Node::Input { port: other_port } => port == other_port,
-                _ => false,
-            },
-            Node::Wire { driver } => match other {
-                Node::Wire {
-                    driver: other_driver,
-                } => same_option(driver, other_driver),
-                _ => false,
-            },
-            Node::Const { value } => match other {
-                Node::Const { value: other_value } => value.same(other_value),
-                _ => false,
-            },
-            Node::Two { op, a, b } => match other {
+        match (self, other) {
+            (Node::Input { port: a }, Node::Input { port: b }) => a == b,
+            (Node::Wire { driver: a }, Node::Wire { driver: b }) => same_option(a, b),
+            (Node::Const { value: a }, Node::Const { value: b }) => a.same(b),
+            (
+                Node::Two { op, a, b },
                 Node::Two {
                     op: other_op,
                     a: other_a,
                     b: other_b,
-                } => op == other_op && a.same(other_a) && b.same(other_b),
-                _ => false,
-            },
-            Node::Not { a } => match other {
-                Node::Not { a: other_a } => a.same(other_a),
-                _ => false,
-            },
-            Node::Mux { sel, cases } => match other {
+                },
+            ) => op == other_op && a.same(other_a) && b.same(other_b),
+            (Node::Not { a }, Node::Not { a: b }) => a.same(b),
+            (
+                Node::Mux { sel, cases },
                 Node::Mux {
                     sel: other_sel,
                     cases: other_cases,
-                } => sel.same(other_sel) && cases.same(other_cases),
-                _ => false,
-            },
-            Node::Cat { parts } => match other {
-                Node::Cat { parts: other_parts } => parts.same(other_parts),
-                _ => false,
-            },
-            Node::Select { a, hi, lo } => match other {
+                },
+            ) => sel.same(other_sel) && cases.same(other_cases),
+            (Node::Cat { parts: a }, Node::Cat { parts: b }) => a.same(b),
+            (
+                Node::Select { a, hi, lo },
                 Node::Select {
                     a: other_a,
                     hi: other_hi,
                     lo: other_lo,
-                } => a.same(other_a) && hi == other_hi && lo == other_lo,
-                _ => false,
-            },
-            Node::Reg {
-                next,
-                enable,
-                clear,
-                init,
-            } => match other {
+                },
+            ) => a.same(other_a) && hi == other_hi && lo == other_lo,
+            (
+                Node::Reg {
+                    next,
+                    enable,
+                    clear,
+                    init,
+                },
                 Node::Reg {
                     next: other_next,
                     enable: other_enable,
                     clear: other_clear,
                     init: other_init,
-                } => {
-                    next.same(other_next)
-                        && same_option(enable, other_enable)
-                        && same_option(clear, other_clear)
-                        && init.same(other_init)
-                }
-                _ => false,
-            },
-            Node::Read { mem, addr } => match other {
+                },
+            ) => {
+                next.same(other_next)
+                    && same_option(enable, other_enable)
+                    && same_option(clear, other_clear)
+                    && init.same(other_init)
+            }
+            (
+                Node::Read { mem, addr },
                 Node::Read {
                     mem: other_mem,
                     addr: other_addr,
-                } => mem.0 == other_mem.0 && addr.same(other_addr),
-                _ => false,
-            },
-            Node::InstOut { inst, port } => match other {
+                },
+            ) => mem.0 == other_mem.0 && addr.same(other_addr),
+            (
+                Node::InstOut { inst, port },
                 Node::InstOut {
                     inst: other_inst,
                     port: other_port,
-                } => inst.0 == other_inst.0 && port == other_port,
-                _ => false,
-            },
-            Node::Op { kind, args } => match other {
+                },
+            ) => inst.0 == other_inst.0 && port == other_port,
+            (
+                Node::Op { kind, args },
                 Node::Op {
                     kind: other_kind,
                     args: other_args,
-                } => kind == other_kind && args.same(other_args),
-                _ => false,
-            },
+                },
+            ) => kind == other_kind && args.same(other_args),
+            _ => false,
         }
     }
 }

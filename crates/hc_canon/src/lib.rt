@@ -4,6 +4,7 @@
 mod canon_form;
 mod equal;
 mod form;
+mod hashing;
 mod layout;
 mod numbers;
 mod renumber;
@@ -13,3 +14,4 @@ mod walk;
 pub use canon_form::canon;
 pub use equal::same;
 pub use form::{EntryId, Form};
+pub use hashing::hash;

@@ -3,8 +3,9 @@ ghost use Rattle.hc_canon.specs.FormView.{IsCanonOf};
 ghost use Rattle.hc_signal.specs.Checked.{IsChecked};
 
 use crate::form::{EntryId, Form};
-use crate::layout::{lay_out, pick_kids};
+use crate::layout::lay_out;
 use crate::numbers::{numbers_of, order_of};
+use crate::renumber::pick;
 use crate::walk::walk;
 use hc_fault::{ItemList, NoMemory};
 use hc_signal::Circuit;
@@ -23,6 +24,12 @@ pub fn canon(alloc: Global, circuit: &Circuit, kids: &[EntryId]) -> Result<Form,
     let order = order_of(alloc, circuit, met)?;
     let numbers = numbers_of(alloc, circuit, met, &order)?;
     let made = lay_out(alloc, circuit, met, &order, &numbers)?;
-    let kids = pick_kids(alloc, kids, order.instances.as_slice())?;
+    let kids = pick(
+        alloc,
+        &numbers,
+        kids,
+        order.instances.as_slice(),
+        Vec::new(alloc),
+    )?;
     Ok(Form::of_parts(made, ItemList::from_vec(kids)))
 }

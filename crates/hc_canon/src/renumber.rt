@@ -1,7 +1,9 @@
 ghost use Rattle.std.specs.Prelude.{◌≡◌, ◌++◌, ◌∷◌, [], get_or, map, option_map, IfOk, OnOk};
-ghost use Rattle.hc_signal.specs.Renumber.{clear_by, id_by, instance_by, memory_by, node_by, row_by, write_by};
+ghost use Rattle.hc_canon.specs.Layout.{picked};
 ghost use Rattle.hc_canon.specs.Numbers.{renumbering};
+ghost use Rattle.hc_signal.specs.Renumber.{clear_by, id_by, instance_by, memory_by, node_by, Renumbering, row_by, write_by};
 
+use crate::form::EntryId;
 use crate::numbers::Numbers;
 use hc_bits::Bits;
 use hc_fault::{ItemList, Name, NoMemory};
@@ -9,6 +11,58 @@ use hc_signal::{
     Ids, InstId, Instance, MemId, Memory, Node, NodeId, NodeRow, Port, Ports, WritePort,
 };
 use std::alloc::Global;
+
+/// Rows with numbers of nodes, memories and instances in them.
+pub trait Renumber: Drop {
+    ghost renumbered: { Renumbering → Self → Self };
+
+    /// A copy with the new numbers.
+    fn renumbered(&self, alloc: Global, numbers: &Numbers) -> Result<Self, NoMemory>
+        ensures { IfOk result (λ made. made ≡ renumbered (renumbering numbers.now) self.now) };
+}
+
+fn pick_one<T: Renumber>(
+    alloc: Global,
+    numbers: &Numbers,
+    rows: &[T],
+    place: u32,
+    made: &mut Vec<T>,
+) -> Result<(), NoMemory>
+    ensures { OnOk result (made.new.items ≡ made.old.items ++ picked (T.renumbered (renumbering numbers.now)) rows.now (place ∷ [])) }
+{
+    match rows.get(place as usize) {
+        Some(row) => {
+            made.push(row.renumbered(alloc, numbers)?)?;
+            Ok(())
+        }
+        None => Ok(()),
+    }
+}
+
+/// The rows in `made`, and after them the rows at these places with the new numbers.
+pub fn pick<T: Renumber>(
+    alloc: Global,
+    numbers: &Numbers,
+    rows: &[T],
+    places: &[u32],
+    made: Vec<T>,
+) -> Result<Vec<T>, NoMemory>
+    ensures { IfOk result (λ all. all.items ≡ made.items ++ picked (T.renumbered (renumbering numbers.now)) rows.now places.now) }
+{
+    let mut all = made;
+    'places: for place in places {
+        pick_one(alloc, numbers, rows, *place, &mut all)?;
+    }
+    Ok(all)
+}
+
+impl Renumber for EntryId {
+    ghost renumbered = { λ _ id. id };
+
+    fn renumbered(&self, _alloc: Global, _numbers: &Numbers) -> Result<EntryId, NoMemory> {
+        Ok(*self)
+    }
+}
 
 fn number(table: &[u32], at: u32) -> u32
     ensures { result ≡ get_or table.now at 0 }
@@ -134,17 +188,18 @@ fn label_copy(alloc: Global, label: &Option<Name>) -> Result<Option<Name>, NoMem
     }
 }
 
-/// The row with the new numbers in it.
-pub fn new_row(alloc: Global, numbers: &Numbers, row: &NodeRow) -> Result<NodeRow, NoMemory>
-    ensures { IfOk result (λ made. made ≡ row_by (renumbering numbers.now) row.now) }
-{
-    let node = new_node(alloc, numbers, &row.node)?;
-    let label = label_copy(alloc, &row.label)?;
-    Ok(NodeRow {
-        width: row.width,
-        node,
-        label,
-    })
+impl Renumber for NodeRow {
+    ghost renumbered = { row_by };
+
+    fn renumbered(&self, alloc: Global, numbers: &Numbers) -> Result<NodeRow, NoMemory> {
+        let node = new_node(alloc, numbers, &self.node)?;
+        let label = label_copy(alloc, &self.label)?;
+        Ok(NodeRow {
+            width: self.width,
+            node,
+            label,
+        })
+    }
 }
 
 fn new_write(numbers: &Numbers, write: &WritePort) -> WritePort
@@ -171,18 +226,19 @@ fn new_writes(
     Ok(ItemList::from_vec(made))
 }
 
-/// The memory with the new numbers in it.
-pub fn new_memory(alloc: Global, numbers: &Numbers, memory: &Memory) -> Result<Memory, NoMemory>
-    ensures { IfOk result (λ made. made ≡ memory_by (renumbering numbers.now) memory.now) }
-{
-    let writes = new_writes(alloc, numbers, memory.writes.as_slice())?;
-    let label = label_copy(alloc, &memory.label)?;
-    Ok(Memory {
-        size: memory.size,
-        width: memory.width,
-        writes,
-        label,
-    })
+impl Renumber for Memory {
+    ghost renumbered = { memory_by };
+
+    fn renumbered(&self, alloc: Global, numbers: &Numbers) -> Result<Memory, NoMemory> {
+        let writes = new_writes(alloc, numbers, self.writes.as_slice())?;
+        let label = label_copy(alloc, &self.label)?;
+        Ok(Memory {
+            size: self.size,
+            width: self.width,
+            writes,
+            label,
+        })
+    }
 }
 
 fn port_copy(alloc: Global, port: &Port) -> Result<Port, NoMemory>
@@ -214,20 +270,17 @@ pub fn ports_copy(alloc: Global, ports: &Ports) -> Result<Ports, NoMemory>
     Ok(Ports { inputs, outputs })
 }
 
-/// The instance with the new numbers in it.
-pub fn new_instance(
-    alloc: Global,
-    numbers: &Numbers,
-    instance: &Instance,
-) -> Result<Instance, NoMemory>
-    ensures { IfOk result (λ made. made ≡ instance_by (renumbering numbers.now) instance.now) }
-{
-    let ports = ports_copy(alloc, &instance.ports)?;
-    let conns = new_ids(alloc, numbers, instance.conns.as_slice())?;
-    let label = label_copy(alloc, &instance.label)?;
-    Ok(Instance {
-        ports,
-        conns,
-        label,
-    })
+impl Renumber for Instance {
+    ghost renumbered = { instance_by };
+
+    fn renumbered(&self, alloc: Global, numbers: &Numbers) -> Result<Instance, NoMemory> {
+        let ports = ports_copy(alloc, &self.ports)?;
+        let conns = new_ids(alloc, numbers, self.conns.as_slice())?;
+        let label = label_copy(alloc, &self.label)?;
+        Ok(Instance {
+            ports,
+            conns,
+            label,
+        })
+    }
 }

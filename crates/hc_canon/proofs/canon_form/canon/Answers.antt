@@ -1,4 +1,4 @@
-use Rattle.std.proofs.Common.{rules, ◌≡◌, ◌∙◌, ap}
+use Rattle.std.proofs.Common.{rules, ◌≡◌, ◌++◌, ◌∙◌, ap₂}
 use Rattle.hc_canon.specs.declared.form.EntryId.{EntryId}
 use Rattle.hc_canon.specs.Layout.{picked}
 use Rattle.hc_canon.specs.Numbering.{NumbersTo, instances_met}
@@ -12,7 +12,8 @@ of_parts-requires c =
     let end = vertices c.as_slice-met.result.now in
     let w : NumbersTo g end = search rules in
     let k : c.from_vec.result ≡ picked (λ (id : EntryId). id) c.args.kids.now (instances_met end) =
-    c.from_vec.ensures ∙ c.in_ok-kids.ensures ∙ ap (λ ns. picked (λ (id : EntryId). id) c.args.kids.now ns) (c.as_slice.ensures.value ∙ c.in_ok-order.ensures.instances) in
+    c.from_vec.ensures ∙ c.in_ok-kids.ensures
+    ∙ ap₂ (λ xs ns. xs ++ picked (λ (id : EntryId). id) c.args.kids.now ns) c.new.ensures.items (c.as_slice.ensures.value ∙ c.in_ok-order.ensures.instances) in
     form_made g c.lawful.ensures c.requires.checked end w _ c.in_ok-numbers.ensures c.args.kids.now c.requires.kids _ _ c.in_ok-made.ensures k
 
 pub returns : goal.returns
@@ -21,5 +22,6 @@ returns c =
     let end = vertices c.as_slice-met.result.now in
     let w : NumbersTo g end = search rules in
     let k : c.from_vec.result ≡ picked (λ (id : EntryId). id) c.args.kids.now (instances_met end) =
-    c.from_vec.ensures ∙ c.in_ok-kids.ensures ∙ ap (λ ns. picked (λ (id : EntryId). id) c.args.kids.now ns) (c.as_slice.ensures.value ∙ c.in_ok-order.ensures.instances) in
+    c.from_vec.ensures ∙ c.in_ok-kids.ensures
+    ∙ ap₂ (λ xs ns. xs ++ picked (λ (id : EntryId). id) c.args.kids.now ns) c.new.ensures.items (c.as_slice.ensures.value ∙ c.in_ok-order.ensures.instances) in
     form_is_canon g c.lawful.ensures c.requires.checked end w _ c.in_ok-numbers.ensures c.args.kids.now c.requires.kids _ _ _ c.in_ok-made.ensures k c.of_parts.ensures

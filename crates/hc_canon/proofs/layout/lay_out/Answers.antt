@@ -15,7 +15,7 @@ of_parts-requires c =
     let to = renumbering c.args.numbers.now in
     let a : c.in_ok-ports.ports ≡ g.ports = search rules in
     let b : c.in_ok-outputs.outputs ≡ (laid_out g end to).outputs = search rules in
-    let n : c.from_vec.result ≡ (laid_out g end to).nodes = c.from_vec.ensures ∙ c.in_ok-nodes.ensures ∙ ap (λ ns. input_rows 0 g.ports.inputs ++ picked (row_by to) g.nodes ns) c.requires.order.nodes in
+    let n : c.from_vec.result ≡ (laid_out g end to).nodes = search rules in
     let m : c.from_vec-2.result ≡ (laid_out g end to).memories = search rules in
     let i : c.from_vec-3.result ≡ (laid_out g end to).instances = search rules in
     subst IsLawful (sym (laid_out_lists g end to _ _ _ _ _ a b n m i)) (laid_out_lawful g c.lawful.ensures end c.requires.walk to c.requires.numbers)

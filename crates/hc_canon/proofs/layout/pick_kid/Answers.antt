@@ -1,5 +1,0 @@
-use Rattle.hc_canon.proofs.Picks.{picked_none}
-use Rattle.hc_canon.proofs.layout.pick_kid.Goals as goal
-
-pub returns-in-None : goal.returns-in-None
-returns-in-None c = picked_none _ _ _ _ c.in-None.ensures.lookup.3

@@ -1,7 +1,7 @@
 -- Isomorphic canonical graphs are equal.
 use Rattle.std.proofs.Common.{◌≡◌, ℕ, zero, suc, ◌+◌, ◌-◌, ◌<◌, ◌≤◌, ◌⊎◌, List, [], ◌∷◌, ◌++◌, map, length, refl, sym, subst, ◌∙◌, ap, ap₂, inl, inr, arith}
 use Rattle.std.proofs.lemmas.List.{map-append}
-use Rattle.std.proofs.lemmas.Option.{slice_get_past}
+use Rattle.std.proofs.lemmas.Option.{slice_get_past, slice_get_within}
 use Rattle.std.specs.Prelude.{slice_get, Option, Some, None, option_map, unwrap_or}
 use Rattle.hc_signal.specs.Member.{Has, first, later}
 use Rattle.hc_canon.proofs.Members.{has_left, has_right, has_cases}
@@ -10,7 +10,6 @@ use Rattle.hc_signal.specs.declared.signal.NodeRow.{NodeRow}
 use Rattle.hc_signal.specs.declared.signal.Node.{Node}
 use Rattle.hc_signal.specs.declared.signal.Node.TheVariants.{Input, Wire, Const, Two, Not, Mux, Cat, Select, Reg, Read, InstOut, Op}
 use Rattle.hc_signal.specs.Graph.{Graph, Vertex, node, mem, inst, Reached, output, further, fanin}
-use Rattle.hc_signal.specs.Lawful.{IsLawful, IsLawfulNode}
 use Rattle.hc_signal.specs.Renumber.{Renumbering, renumber, row_by, node_by}
 use Rattle.hc_canon.specs.Same.{IsIsomorphism}
 use Rattle.hc_canon.specs.Numbering.{IsCanonical, counted, nodes_met, memories_met, instances_met, count_from, input_row}
@@ -192,12 +191,6 @@ nodes_met_by to back g h e (node n ∷ ps) a =
 nodes_met_by to back g h e (mem n ∷ ps) a = nodes_met_by to back g h e ps (λ p h. a p (later h))
 nodes_met_by to back g h e (inst n ∷ ps) a = nodes_met_by to back g h e ps (λ p h. a p (later h))
 
--- the number of an input node is its port
-input_at_port : (g : Graph) → IsLawful g → IsCanonical g → (n k : ℕ) (row : NodeRow) → slice_get g.nodes n ≡ Some row → row.node ≡ Input k → n ≡ k
-input_at_port g l c n k row e q =
-    let r : (p : Port) × (slice_get g.ports.inputs k ≡ Some p) × (p.width ≡ row.width) = subst (λ x. IsLawfulNode g row.width x) q (l.nodes n row e).1 in
-    l.one_input n k k (row, e, q) (input_row r.0 k, c.inputs k r.0 r.1, refl)
-
 pub some_within : {X : Type 0} (xs : List X) (k : ℕ) → slice_get xs k ≡ None → k < length xs → ⊥
 some_within [] k q b = omega (arith, b)
 some_within (x ∷ xs) zero q b = cc
@@ -209,7 +202,59 @@ two k n = grind arith
 three : (k a b : ℕ) → (k < a) ⊎ (((a ≤ k) × (k < b)) ⊎ (b ≤ k))
 three k a b = elim (two k a) [ inl l ↦ inl l | inr m ↦ (elim (two k b) [ inl l ↦ inr (inl (m, l)) | inr p ↦ inr (inr p) ]) ]
 
-module _ (to back : Renumbering) (g h : Graph) (e : IsIsomorphism to back g h) (lg : IsLawful g) (lh : IsLawful h) (cg : IsCanonical g) (ch : IsCanonical h) where
+-- a number among those of the nodes met is counted
+met_is_counted : (g : Graph) (ps : List Vertex) (m : ℕ) → Has (nodes_met g ps) m → Has (counted (slice_get g.nodes m) m) m
+met_is_counted g [] m h = elim h [ ]
+met_is_counted g (node n ∷ ps) m h =
+    elim (has_cases (counted (slice_get g.nodes n) n) (nodes_met g ps) h) [
+      | inl l ↦ (let e : n ≡ m = counted_only (slice_get g.nodes n) n m l in subst (λ k. Has (counted (slice_get g.nodes k) k) m) e l)
+      | inr r ↦ met_is_counted g ps m r
+    ]
+met_is_counted g (mem n ∷ ps) m h = met_is_counted g ps m h
+met_is_counted g (inst n ∷ ps) m h = met_is_counted g ps m h
+
+input_not_counted : (row : NodeRow) (k n : ℕ) → row.node ≡ Input k → Has (counted (Some row) n) n → ⊥
+input_not_counted row k n e h = none (subst (λ x. Has (counted (Some (record { width = row.width; node = x; label = row.label })) n) n) e h)
+  where
+    none : {m : ℕ} → Has [] m → ⊥
+    none c = elim c [ ]
+
+-- what stands in a canonical graph
+module _ (g : Graph) (c : IsCanonical g) where
+  counted_here : (k : ℕ) → length g.ports.inputs ≤ k → k < length g.nodes → Has (nodes_met g c.end) k
+  counted_here k l b =
+      let a : length g.ports.inputs ≤ length g.nodes = c.nodes.0 in
+      let d : k < length g.ports.inputs + (length g.nodes - length g.ports.inputs) = omega (arith, l, b, a) in
+      subst (λ x. Has x k) (sym c.nodes.1) (count_has _ _ k l d)
+
+  pub reached_node : (k : ℕ) → length g.ports.inputs ≤ k → k < length g.nodes → Reached g (node k)
+  reached_node k l b = walk_sound g c.walk (node k) (met_from_nodes g c.end k (counted_here k l b))
+
+  pub reached_mem : (k : ℕ) → k < length g.memories → Reached g (mem k)
+  reached_mem k b = let d : k < 0 + length g.memories = omega (arith, b) in let z : 0 ≤ k = omega arith in
+      walk_sound g c.walk (mem k) (met_from_memories c.end k (subst (λ x. Has x k) (sym c.memories) (count_has _ _ k z d)))
+
+  pub reached_inst : (k : ℕ) → k < length g.instances → Reached g (inst k)
+  reached_inst k b = let d : k < 0 + length g.instances = omega (arith, b) in let z : 0 ≤ k = omega arith in
+      walk_sound g c.walk (inst k) (met_from_instances c.end k (subst (λ x. Has x k) (sym c.instances) (count_has _ _ k z d)))
+
+  -- the number of an input node is its port
+  pub input_at_port : (n k : ℕ) (row : NodeRow) → slice_get g.nodes n ≡ Some row → row.node ≡ Input k → n ≡ k
+  input_at_port n k row e q =
+      elim (two n (length g.ports.inputs)) [
+        | inl b ↦ at_port (slice_get g.ports.inputs n) refl b
+        | inr b ↦ (let h : Has (counted (slice_get g.nodes n) n) n = met_is_counted g c.end n (counted_here n b (slice_get_within g.nodes n row e)) in
+            absurd (input_not_counted row k n q (subst (λ o. Has (counted o n) n) e h)))
+      ]
+    where
+      at_port : (o : Option Port) → slice_get g.ports.inputs n ≡ o → n < length g.ports.inputs → n ≡ k
+      at_port (Some p) r b =
+          let same : Some row ≡ Some (input_row p n) = sym e ∙ c.inputs n p r in
+          let i : Input k ≡ Input n = sym q ∙ ap (λ (x : NodeRow). x.node) (ap (λ o. unwrap_or o row) same) in
+          cc
+      at_port None r b = absurd (some_within g.ports.inputs n r b)
+
+module _ (to back : Renumbering) (g h : Graph) (e : IsIsomorphism to back g h) (cg : IsCanonical g) (ch : IsCanonical h) where
   ends : ch.end ≡ map (renumber to) cg.end
   ends = walk_once h ch.walk (walks_along to back g h e cg.walk)
 
@@ -240,7 +285,7 @@ module _ (to back : Renumbering) (g h : Graph) (e : IsIsomorphism to back g h) (
   input_fixed : (n : ℕ) → Reached g (node n) → IsInput (slice_get g.nodes n) → to.node n ≡ n
   input_fixed n r i =
       let there : slice_get h.nodes (to.node n) ≡ Some (row_by to i.0) = e.nodes n r ∙ ap (option_map (row_by to)) i.2 in
-      input_at_port h lh ch (to.node n) i.1 (row_by to i.0) there (ap (node_by to) i.3) ∙ sym (input_at_port g lg cg n i.1 i.0 i.2 i.3)
+      input_at_port h ch (to.node n) i.1 (row_by to i.0) there (ap (node_by to) i.3) ∙ sym (input_at_port g cg n i.1 i.0 i.2 i.3)
 
   -- each vertex that is reached goes to itself
   vertex_fixed : (p : Vertex) → Reached g p → renumber to p ≡ p
@@ -254,12 +299,6 @@ module _ (to back : Renumbering) (g h : Graph) (e : IsIsomorphism to back g h) (
 
   fanin_stays : (p : Vertex) → Reached g p → Fixes to (fanin g p)
   fanin_stays p r q c = vertex_fixed q (further p q r c)
-
-  reached_node : (k : ℕ) → length g.ports.inputs ≤ k → k < length g.nodes → Reached g (node k)
-  reached_node k l b =
-      let a : length g.ports.inputs ≤ length g.nodes = cg.nodes.0 in
-      let c : k < length g.ports.inputs + (length g.nodes - length g.ports.inputs) = omega (arith, l, b, a) in
-      walk_sound g cg.walk (node k) (met_from_nodes g cg.end k (subst (λ x. Has x k) (sym cg.nodes.1) (count_has _ _ k l c)))
 
   row_stays : (k : ℕ) → Reached g (node k) → slice_get h.nodes k ≡ slice_get g.nodes k
   row_stays k r = ap (slice_get h.nodes) (sym (ap number (vertex_fixed (node k) r))) ∙ e.nodes k r ∙ row_fixed to (slice_get g.nodes k) (fanin_stays (node k) r)
@@ -276,31 +315,23 @@ module _ (to back : Renumbering) (g h : Graph) (e : IsIsomorphism to back g h) (
       elim (three k (length g.ports.inputs) (length g.nodes)) [
         | inl b ↦ input_row_stays k b
         | inr o ↦ (elim o [
-          | inl m ↦ row_stays k (reached_node k m.0 m.1)
+          | inl m ↦ row_stays k (reached_node g cg k m.0 m.1)
           | inr p ↦ (let q : length h.nodes ≤ k = omega (arith, p, same_length) in slice_get_past h.nodes k q ∙ sym (slice_get_past g.nodes k p))
         ])
       ]
 
-  reached_mem : (k : ℕ) → k < length g.memories → Reached g (mem k)
-  reached_mem k b = let c : k < 0 + length g.memories = omega (arith, b) in let z : 0 ≤ k = omega arith in
-      walk_sound g cg.walk (mem k) (met_from_memories cg.end k (subst (λ x. Has x k) (sym cg.memories) (count_has _ _ k z c)))
-
   mem_row : (k : ℕ) → slice_get h.memories k ≡ slice_get g.memories k
   mem_row k =
       elim (two k (length g.memories)) [
-        | inl b ↦ (let r : Reached g (mem k) = reached_mem k b in
+        | inl b ↦ (let r : Reached g (mem k) = reached_mem g cg k b in
             ap (slice_get h.memories) (sym (ap number (vertex_fixed (mem k) r))) ∙ e.memories k r ∙ memory_fixed to (slice_get g.memories k) (fanin_stays (mem k) r))
         | inr p ↦ (let q : length h.memories ≤ k = omega (arith, p, mem_map.0) in slice_get_past h.memories k q ∙ sym (slice_get_past g.memories k p))
       ]
 
-  pub reached_inst : (k : ℕ) → k < length g.instances → Reached g (inst k)
-  reached_inst k b = let c : k < 0 + length g.instances = omega (arith, b) in let z : 0 ≤ k = omega arith in
-      walk_sound g cg.walk (inst k) (met_from_instances cg.end k (subst (λ x. Has x k) (sym cg.instances) (count_has _ _ k z c)))
-
   inst_row : (k : ℕ) → slice_get h.instances k ≡ slice_get g.instances k
   inst_row k =
       elim (two k (length g.instances)) [
-        | inl b ↦ (let r : Reached g (inst k) = reached_inst k b in
+        | inl b ↦ (let r : Reached g (inst k) = reached_inst g cg k b in
             ap (slice_get h.instances) (sym (ap number (vertex_fixed (inst k) r))) ∙ e.instances k r ∙ instance_fixed to (slice_get g.instances k) (fanin_stays (inst k) r))
         | inr p ↦ (let q : length h.instances ≤ k = omega (arith, p, inst_map.0) in slice_get_past h.instances k q ∙ sym (slice_get_past g.instances k p))
       ]

@@ -10,6 +10,7 @@ pub mod Counting
 pub mod Fits
 pub mod Transport
 pub mod Carried
+pub mod Decided
 pub mod Walking
 pub mod Waits
 pub mod Picks

@@ -5,6 +5,7 @@ mod canon_form;
 mod equal;
 mod form;
 mod hashing;
+mod laws;
 mod layout;
 mod numbers;
 mod renumber;
@@ -15,3 +16,7 @@ pub use canon_form::canon;
 pub use equal::same;
 pub use form::{EntryId, Form};
 pub use hashing::hash;
+pub use laws::{
+    canonical_forms_are_single, equal_forms_have_equal_hashes, forms_decide_isomorphism,
+    same_is_an_equivalence,
+};

@@ -44,10 +44,10 @@ map_differs f g (suc n) a h = (
 )
 
 module _ (g : Graph) (l : IsLawful g) (end : List Vertex) (w : NumbersTo g end) where
-  abbrev to : Renumbering
+  abbrev pub to : Renumbering
   to = by_tables (numbered (map input_number g.nodes) (length g.ports.inputs) (nodes_met g end)) (numbered (replicate (length g.memories) 0) 0 (memories_met end)) (numbered (replicate (length g.instances) 0) 0 (instances_met end))
 
-  are : AreNumbers g end to
+  pub are : AreNumbers g end to
   are = are_numbers g l end w _ _ _ refl refl refl
 
   abbrev total : ℕ

@@ -12,5 +12,6 @@ pub mod Transport
 pub mod Carried
 pub mod Decided
 pub mod Walking
+pub mod Exists
 pub mod Waits
 pub mod Picks

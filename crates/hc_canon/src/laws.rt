@@ -5,6 +5,7 @@ ghost use Rattle.hc_canon.specs.Hashing.{hash_of};
 ghost use Rattle.hc_canon.specs.Numbering.{IsCanonical};
 ghost use Rattle.hc_canon.specs.Same.{IsIsomorphism, Same};
 ghost use Rattle.hc_signal.specs.Graph.{Graph};
+ghost use Rattle.hc_signal.specs.Lawful.{IsLawful};
 ghost use Rattle.hc_signal.specs.Renumber.{Renumbering};
 ghost use Rattle.hc_signal.specs.Tree.{Tree};
 
@@ -15,7 +16,12 @@ pub fn same_is_an_equivalence()
     ensures transitive { (s t u : Tree) → Same s t → Same t u → Same s u }
 {}
 
-/// A graph has one canonical form.
+/// Each lawful graph has a canonical form, which is lawful too.
+pub fn canonical_forms_exist()
+    ensures { (g : Graph) → IsLawful g → (c : Graph) × (to : Renumbering) × (back : Renumbering) × IsIsomorphism to back g c × IsLawful c × IsCanonical c }
+{}
+
+/// A graph has at most one canonical form.
 pub fn canonical_forms_are_single()
     ensures { (g c d : Graph) (to back into home : Renumbering) → IsIsomorphism to back g c → IsIsomorphism into home g d → IsCanonical c → IsCanonical d → c ≡ d }
 {}

@@ -17,6 +17,6 @@ pub use equal::same;
 pub use form::{EntryId, Form};
 pub use hashing::hash;
 pub use laws::{
-    canonical_forms_are_single, equal_forms_have_equal_hashes, forms_decide_isomorphism,
-    same_is_an_equivalence,
+    canonical_forms_are_single, canonical_forms_exist, equal_forms_have_equal_hashes,
+    forms_decide_isomorphism, same_is_an_equivalence,
 };

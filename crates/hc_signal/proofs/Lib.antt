@@ -1,0 +1,7 @@
+pub mod Places
+pub mod Grows
+pub mod Added
+pub mod AddedPorts
+pub mod Follows
+pub mod Changed
+pub mod Drives

@@ -1,0 +1,112 @@
+-- What the calls of the builder do with the graph so far.
+use Rattle.std.specs.Prelude.{◌≡◌, ℕ, zero, suc, ◌+◌, ◌*◌, ◌^◌, ◌<◌, Bool, true, false, ◌||◌, ◌==◌, is_some, List, [], ◌∷◌, ◌++◌, map, length, slice_get, Option, Some, None, option_map, Result, Ok, Err}
+use Rattle.std.specs.List.{list_any}
+use Rattle.hc_fault.specs.declared.fault.FaultKind.{FaultKind}
+use Rattle.hc_fault.specs.declared.name.Name.{Name}
+use Rattle.hc_signal.specs.Member.{Has}
+use Rattle.hc_signal.specs.declared.stop.BuildStop.{BuildStop}
+use Rattle.hc_signal.specs.declared.stop.BuildStop.TheVariants.{Fault, NoMemory}
+use Rattle.hc_signal.specs.declared.signal.Port.{Port}
+use Rattle.hc_signal.specs.declared.signal.NodeId.{NodeId}
+use Rattle.hc_signal.specs.declared.signal.NodeRow.{NodeRow}
+use Rattle.hc_signal.specs.declared.signal.Node.{Node}
+use Rattle.hc_signal.specs.declared.signal.Node.TheVariants.{Input, Wire, Const, Two, Not, Mux, Cat, Select, Reg, Read, InstOut, Op}
+use Rattle.hc_signal.specs.Graph.{Graph}
+use Rattle.hc_signal.specs.Weight.{graph_weight}
+
+-- A call answers a fault exactly where the rule has it.
+abbrev pub Obeys : {T : Type 0} → Result T BuildStop → Option FaultKind → Type 0
+Obeys (Ok answer) broken = broken ≡ None
+Obeys (Err (Fault kind)) broken = broken ≡ Some kind
+Obeys (Err NoMemory) broken = broken ≡ None
+
+-- ---- what the calls ask
+
+abbrev pub IsNode : Graph → NodeId → Type 0
+IsNode g id = id.0 < length g.nodes
+
+abbrev pub AreNodes : Graph → List NodeId → Type 0
+AreNodes g ids = (id : NodeId) → Has ids id → IsNode g id
+
+-- room for one node more, of so many operands: places fit 32 bits, and the weight 64
+abbrev pub HasRoom : Graph → ℕ → Type 0
+HasRoom g operands = (length g.nodes + 1 < 2 ^ 32) × (graph_weight g + 1 + operands < 2 ^ 64)
+
+-- ---- widths
+
+abbrev pub row_width : Option NodeRow → ℕ
+row_width None = 0
+row_width (Some row) = row.width
+
+abbrev pub width_at : Graph → NodeId → ℕ
+width_at g id = row_width (slice_get g.nodes id.0)
+
+abbrev pub widths_at : Graph → List NodeId → List ℕ
+widths_at g ids = map (width_at g) ids
+
+-- ---- new nodes
+
+abbrev pub unlabelled : ℕ → Node → NodeRow
+unlabelled width node = record { width = width; node = node; label = None }
+
+abbrev pub with_row : Graph → NodeRow → Graph
+with_row g row = record g { nodes = g.nodes ++ row ∷ [] }
+
+-- one node more, at the end
+abbrev pub AddsNode : Graph → ℕ → Node → Graph → NodeId → Type 0
+AddsNode old width node new id = (new ≡ with_row old (unlabelled width node)) × (id.0 ≡ length old.nodes)
+
+-- it stands for no port: neither an input nor an output of an instance
+abbrev pub is_inner : Node → Bool
+is_inner (Input port) = false
+is_inner (InstOut i port) = false
+is_inner other = true
+
+abbrev pub port : Name → ℕ → Port
+port name width = record { name = name; width = width }
+
+-- one input port more, and its node
+abbrev pub AddsInput : Graph → Name → ℕ → Graph → NodeId → Type 0
+AddsInput old name width new id =
+    (new ≡ with_row (record old { ports = record { inputs = old.ports.inputs ++ port name width ∷ []; outputs = old.ports.outputs } }) (unlabelled width (Input (length old.ports.inputs))))
+    × (id.0 ≡ length old.nodes)
+
+-- one output port more, and its wire
+abbrev pub AddsOutput : Graph → Name → ℕ → Graph → NodeId → Type 0
+AddsOutput old name width new id =
+    (new ≡ with_row (record old { ports = record { inputs = old.ports.inputs; outputs = old.ports.outputs ++ port name width ∷ [] }; outputs = old.outputs ++ id ∷ [] }) (unlabelled width (Wire None)))
+    × (id.0 ≡ length old.nodes)
+
+-- ---- changed rows
+
+-- the list with f of the element at a place
+abbrev pub change_at : {X : Type 0} → (X → X) → ℕ → List X → List X
+change_at f n [] = []
+change_at f zero (x ∷ xs) = f x ∷ xs
+change_at f (suc n) (x ∷ xs) = x ∷ change_at f n xs
+
+-- ---- drivers
+
+abbrev pub driver_of : Node → Option NodeId
+driver_of (Wire driver) = driver
+driver_of other = None
+
+abbrev pub is_wire : Node → Bool
+is_wire (Wire driver) = true
+is_wire other = false
+
+abbrev pub IsWire : Graph → NodeId → Type 0
+IsWire g id = (row : NodeRow) × (slice_get g.nodes id.0 ≡ Some row) × (is_wire row.node ≡ true)
+
+abbrev pub is_driven : Option NodeRow → Bool
+is_driven None = false
+is_driven (Some row) = is_some (driver_of row.node)
+
+abbrev pub is_driven_at : Graph → NodeId → Bool
+is_driven_at g id = is_driven (slice_get g.nodes id.0)
+
+abbrev pub driven_from : NodeId → NodeRow → NodeRow
+driven_from from row = record row { node = Wire (Some from) }
+
+abbrev pub with_driver : Graph → NodeId → NodeId → Graph
+with_driver g wire from = record g { nodes = change_at (driven_from from) wire.0 g.nodes }

@@ -1,0 +1,184 @@
+ghost use Rattle.std.specs.Prelude.{◌≡◌, ◌≢◌, ◌+◌, ◌<◌, ◌≤◌, ◌^◌, true, nat_abs, None, Some, IfOk, OnOk, OnErr, IfErr};
+ghost use Rattle.hc_bits.specs.BitVector.{IsWidth};
+ghost use Rattle.hc_signal.specs.declared.signal.Node.TheVariants as node;
+ghost use Rattle.hc_signal.specs.declared.stop.BuildStop.TheVariants as stop;
+ghost use Rattle.hc_signal.specs.Graph.{Graph};
+ghost use Rattle.hc_signal.specs.Weight.{operands};
+ghost use Rattle.hc_signal.specs.Lawful.{IsLawfulNode};
+ghost use Rattle.hc_signal.specs.Rules.{width_rule, two_rule, two_width, drive_rule};
+ghost use Rattle.hc_signal.specs.Builds.{IsNode, IsWire, HasRoom, Obeys, AddsNode, AddsInput, AddsOutput, is_inner, is_driven, is_driven_at, is_wire, driven_from, width_at, with_driver};
+
+use super::Builder;
+use crate::rules::{as_width, drive_fault, width_of_two};
+use crate::signal::{Node, NodeId, NodeRow, Op2, Port};
+use crate::stop::BuildStop;
+use hc_fault::{Name, NoMemory};
+
+impl Builder {
+    /// Adds an input port of this width in bits, and its node. F12 where the width is not 1 to 128.
+    pub fn input(&mut self, name: &Name, width: i64) -> Result<NodeId, BuildStop>
+        requires room { HasRoom self.old 0 }
+        ensures made { IfOk result (AddsInput self.old name.now (nat_abs width) self.new) }
+        ensures rule { Obeys result (width_rule width) }
+        ensures same { OnErr result (self.new ≡ self.old) }
+    {
+        let width = match as_width(width) {
+            Ok(width) => width,
+            Err(kind) => return Err(BuildStop::Fault(kind)),
+        };
+        let name = Name::new(self.alloc, name.bytes())?;
+        self.inputs.reserve(1)?;
+        self.nodes.reserve(1)?;
+        self.is_output.reserve(1)?;
+        let id = NodeId(self.nodes.len() as u32);
+        let port = self.inputs.len() as u32;
+        self.inputs.push_reserved(Port { name, width });
+        self.nodes.push_reserved(NodeRow {
+            width,
+            node: Node::Input { port },
+            label: None,
+        });
+        self.is_output.push_reserved(false);
+        self.weight += 1;
+        Ok(id)
+    }
+
+    /// Adds an output port of this width in bits, and its wire, which has no driver yet. F12 where the width is not
+    /// 1 to 128.
+    pub fn output(&mut self, name: &Name, width: i64) -> Result<NodeId, BuildStop>
+        requires room { HasRoom self.old 1 }
+        ensures made { IfOk result (AddsOutput self.old name.now (nat_abs width) self.new) }
+        ensures rule { Obeys result (width_rule width) }
+        ensures same { OnErr result (self.new ≡ self.old) }
+    {
+        let width = match as_width(width) {
+            Ok(width) => width,
+            Err(kind) => return Err(BuildStop::Fault(kind)),
+        };
+        let name = Name::new(self.alloc, name.bytes())?;
+        self.outputs.reserve(1)?;
+        self.output_wires.reserve(1)?;
+        self.nodes.reserve(1)?;
+        self.is_output.reserve(1)?;
+        let id = NodeId(self.nodes.len() as u32);
+        self.outputs.push_reserved(Port { name, width });
+        self.output_wires.push_reserved(id);
+        self.nodes.push_reserved(NodeRow {
+            width,
+            node: Node::Wire { driver: None },
+            label: None,
+        });
+        self.is_output.push_reserved(true);
+        self.weight += 2;
+        Ok(id)
+    }
+
+    /// Adds a wire of this width in bits, which has no driver yet. F12 where the width is not 1 to 128.
+    pub fn wire(&mut self, width: i64) -> Result<NodeId, BuildStop>
+        requires room { HasRoom self.old 1 }
+        ensures made { IfOk result (AddsNode self.old (nat_abs width) (node.Wire None) self.new) }
+        ensures rule { Obeys result (width_rule width) }
+        ensures same { OnErr result (self.new ≡ self.old) }
+    {
+        let width = match as_width(width) {
+            Ok(width) => width,
+            Err(kind) => return Err(BuildStop::Fault(kind)),
+        };
+        Ok(self.add(width, Node::Wire { driver: None })?)
+    }
+
+    /// Drives a wire from a node. F15 where their widths differ, else F20 where the wire is driven already.
+    pub fn drive(&mut self, wire: NodeId, from: NodeId) -> Result<(), BuildStop>
+        requires wire { IsWire self.old wire }
+        requires from { IsNode self.old from }
+        ensures made { OnOk result (self.new ≡ with_driver self.old wire from) }
+        ensures rule { Obeys result (drive_rule (width_at self.old wire) (width_at self.old from) (is_driven_at self.old wire)) }
+        ensures same { OnErr result (self.new ≡ self.old) }
+        ensures no_memory { IfErr result (λ e. e ≢ stop.NoMemory) }
+    {
+        let is_driven = is_driven(&self.nodes[wire.0 as usize]);
+        if let Some(kind) = drive_fault(self.width(wire), self.width(from), is_driven) {
+            return Err(BuildStop::Fault(kind));
+        }
+        connect(&mut self.nodes[wire.0 as usize], from);
+        Ok(())
+    }
+
+    /// Adds an operator over two nodes. F12 where a product is wider than 128 bits; F15 where the operands of another
+    /// operator differ in width.
+    pub fn two(&mut self, op: Op2, a: NodeId, b: NodeId) -> Result<NodeId, BuildStop>
+        requires room { HasRoom self.old 2 }
+        requires a_node { IsNode self.old a }
+        requires b_node { IsNode self.old b }
+        ensures made { IfOk result (AddsNode self.old (two_width op (width_at self.old a) (width_at self.old b)) (node.Two op a b) self.new) }
+        ensures rule { Obeys result (two_rule op (width_at self.old a) (width_at self.old b)) }
+        ensures same { OnErr result (self.new ≡ self.old) }
+    {
+        let width = match width_of_two(op, self.width(a), self.width(b)) {
+            Ok(width) => width,
+            Err(kind) => return Err(BuildStop::Fault(kind)),
+        };
+        Ok(self.add(width, Node::Two { op, a, b })?)
+    }
+
+    /// Adds a node that stands for no port, without a label.
+    pub(super) fn add(&mut self, width: u32, node: Node) -> Result<NodeId, NoMemory>
+        requires room { HasRoom self.old (operands node) }
+        requires width { IsWidth width }
+        requires lawful { IsLawfulNode self.old width node }
+        requires inner { is_inner node ≡ true }
+        ensures made { IfOk result (AddsNode self.old width node self.new) }
+        ensures same { OnErr result (self.new ≡ self.old) }
+    {
+        let weight = 1 + operand_count(&node);
+        self.nodes.reserve(1)?;
+        self.is_output.reserve(1)?;
+        let id = NodeId(self.nodes.len() as u32);
+        self.nodes.push_reserved(NodeRow {
+            width,
+            node,
+            label: None,
+        });
+        self.is_output.push_reserved(false);
+        self.weight += weight;
+        Ok(id)
+    }
+}
+
+/// Whether the row is a wire with a driver.
+fn is_driven(row: &NodeRow) -> bool
+    ensures { result ≡ is_driven (Some row.now) }
+{
+    match &row.node {
+        Node::Wire { driver } => driver.is_some(),
+        _ => false,
+    }
+}
+
+/// Drives a wire.
+fn connect(row: &mut NodeRow, from: NodeId)
+    requires { is_wire row.old.node ≡ true }
+    ensures { row.new ≡ driven_from from row.old }
+{
+    if let Node::Wire { driver } = &mut row.node {
+        *driver = Some(from);
+    }
+}
+
+/// How many operands a node has. A wire has one, driven or not; the memory of a read is none.
+fn operand_count(node: &Node) -> u64
+    requires { operands node.now + 1 < 2 ^ 64 }
+    ensures { result ≡ operands node.now }
+{
+    match node {
+        Node::Input { .. } | Node::Const { .. } | Node::InstOut { .. } => 0,
+        Node::Wire { .. } | Node::Not { .. } | Node::Select { .. } | Node::Read { .. } => 1,
+        Node::Two { .. } => 2,
+        Node::Mux { cases, .. } => 1 + cases.as_slice().len() as u64,
+        Node::Cat { parts } => parts.as_slice().len() as u64,
+        Node::Reg { enable, clear, .. } => 1
+            + u64::from(enable.is_some())
+            + u64::from(clear.is_some()),
+        Node::Op { args, .. } => args.as_slice().len() as u64,
+    }
+}

@@ -1,0 +1,51 @@
+ghost use Rattle.std.specs.Prelude.{◌≡◌, ◌≤◌, ℤ, pos, Some, None, MatchResult};
+ghost use Rattle.hc_bits.specs.BitVector.{IsWidth};
+ghost use Rattle.hc_signal.specs.Rules.{width_rule, two_rule, two_width, drive_rule};
+
+use crate::signal::Op2;
+use hc_fault::FaultKind;
+
+/// The number as a width from 1 to 128, else F12.
+pub fn as_width(width: i64) -> Result<u32, FaultKind>
+    ensures { MatchResult result (λ w. (width ≡ pos w) × IsWidth w × (width_rule width ≡ None)) (λ kind. width_rule width ≡ Some kind) }
+{
+    if (1..=128).contains(&width) {
+        Ok(width as u32)
+    } else {
+        Err(FaultKind::Width)
+    }
+}
+
+/// The width that an operator gives operands of these widths. F12 where a product is wider than 128 bits; F15 where
+/// operands of another operator differ in width.
+pub fn width_of_two(op: Op2, a: u32, b: u32) -> Result<u32, FaultKind>
+    requires a_width { a ≤ 128 }
+    requires b_width { b ≤ 128 }
+    ensures { MatchResult result (λ w. (w ≡ two_width op a b) × (two_rule op a b ≡ None)) (λ kind. two_rule op a b ≡ Some kind) }
+{
+    match op {
+        Op2::Mulu | Op2::Muls => {
+            if a + b <= 128 {
+                Ok(a + b)
+            } else {
+                Err(FaultKind::Width)
+            }
+        }
+        _ if a != b => Err(FaultKind::WidthMismatch),
+        Op2::Eq | Op2::Lt => Ok(1),
+        Op2::Add | Op2::Sub | Op2::And | Op2::Or | Op2::Xor => Ok(a),
+    }
+}
+
+/// F15 where a wire and its driver differ in width, else F20 where the wire is driven already.
+pub fn drive_fault(wire: u32, from: u32, is_driven: bool) -> Option<FaultKind>
+    ensures { result ≡ drive_rule wire from is_driven }
+{
+    if wire != from {
+        Some(FaultKind::WidthMismatch)
+    } else if is_driven {
+        Some(FaultKind::DrivenTwice)
+    } else {
+        None
+    }
+}

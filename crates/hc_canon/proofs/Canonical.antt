@@ -4,7 +4,7 @@ use Rattle.std.proofs.lemmas.List.{map-append}
 use Rattle.std.proofs.lemmas.Option.{slice_get_past, slice_get_within}
 use Rattle.std.specs.Prelude.{slice_get, Option, Some, None, option_map, unwrap_or}
 use Rattle.hc_signal.specs.Member.{Has, first, later}
-use Rattle.hc_canon.proofs.Members.{has_left, has_right, has_cases}
+use Rattle.hc_walk.proofs.Members.{has_left, has_right, has_cases}
 use Rattle.hc_signal.specs.declared.signal.Port.{Port}
 use Rattle.hc_signal.specs.declared.signal.NodeRow.{NodeRow}
 use Rattle.hc_signal.specs.declared.signal.Node.{Node}
@@ -13,7 +13,8 @@ use Rattle.hc_signal.specs.Graph.{Graph, Vertex, node, mem, inst, Reached, outpu
 use Rattle.hc_signal.specs.Renumber.{Renumbering, renumber, row_by, node_by}
 use Rattle.hc_canon.specs.Same.{IsIsomorphism}
 use Rattle.hc_canon.specs.Numbering.{IsCanonical, counted, nodes_met, memories_met, instances_met, count_from, input_row}
-use Rattle.hc_canon.proofs.Walks.{walk_once, walk_complete, walk_sound, walks_along, AllReached}
+use Rattle.hc_walk.proofs.Walks.{walk_once, walk_complete, walk_sound, AllReached}
+use Rattle.hc_canon.proofs.Isomorphisms.{walk_along}
 use Rattle.hc_canon.proofs.Renumbered.{Fixes, number, ids_fixed, row_fixed, memory_fixed, instance_fixed}
 
 abbrev rest : List ℕ → List ℕ
@@ -256,7 +257,7 @@ module _ (g : Graph) (c : IsCanonical g) where
 
 module _ (to back : Renumbering) (g h : Graph) (e : IsIsomorphism to back g h) (cg : IsCanonical g) (ch : IsCanonical h) where
   ends : ch.end ≡ map (renumber to) cg.end
-  ends = walk_once h ch.walk (walks_along to back g h e cg.walk)
+  ends = walk_once h ch.walk (walk_along to back g h e cg.walk)
 
   same_inputs : length h.ports.inputs ≡ length g.ports.inputs
   same_inputs = ap (λ p. length p.inputs) e.ports

@@ -11,7 +11,8 @@ use Rattle.hc_signal.specs.declared.signal.Instance.{Instance}
 use Rattle.hc_signal.specs.Graph.{Graph, Vertex, inst, Reached}
 use Rattle.hc_signal.specs.Lawful.{IsLawful}
 use Rattle.hc_signal.specs.Renumber.{Renumbering, instance_by}
-use Rattle.hc_canon.specs.Numbering.{NumbersTo, instances_met}
+use Rattle.hc_walk.specs.DepthFirst.{NumbersTo}
+use Rattle.hc_canon.specs.Numbering.{instances_met}
 use Rattle.hc_canon.specs.FormView.{FormView, IsForm, IsCanonOf}
 use Rattle.hc_signal.specs.Checked.{IsChecked}
 use Rattle.hc_canon.specs.Layout.{picked, laid_out, AreNumbers}

@@ -5,38 +5,19 @@ use Rattle.std.specs.Prelude.{slice_get, Option, Some, None, option_map, replica
 use Rattle.std.proofs.Math.ListN.{set}
 use Rattle.std.proofs.lemmas.Option.{slice_get_within, slice_get-map, get_or_from_slice_get}
 use Rattle.hc_signal.specs.Member.{Has, first, later}
-use Rattle.hc_canon.proofs.Members.{has_cases}
+use Rattle.hc_walk.proofs.Members.{has_cases}
 use Rattle.hc_signal.specs.declared.signal.NodeRow.{NodeRow}
 use Rattle.hc_signal.specs.declared.signal.Node.{Node}
 use Rattle.hc_signal.specs.declared.signal.Node.TheVariants.{Input, Wire, Const, Two, Not, Mux, Cat, Select, Reg, Read, InstOut, Op}
 use Rattle.hc_signal.specs.Graph.{Graph, Vertex, node, mem, inst}
 use Rattle.hc_signal.specs.Lawful.{IsLawful, NodeAt}
-use Rattle.hc_canon.specs.Numbering.{DepthFirst, over, again, new, NumbersTo, counted, nodes_met, memories_met, instances_met}
+use Rattle.hc_walk.specs.DepthFirst.{NumbersTo}
+use Rattle.hc_canon.specs.Numbering.{counted, nodes_met, memories_met, instances_met}
 use Rattle.hc_canon.specs.Numbers.{port_of, input_number, numbered, by_tables}
 use Rattle.hc_canon.specs.Layout.{AreNumbers}
-use Rattle.hc_canon.proofs.Finite.{AllDifferent}
+use Rattle.hc_walk.proofs.Walks.{AllDifferent, ends_differ}
 use Rattle.hc_canon.proofs.Canonical.{counted_only, met_from_nodes, met_from_memories, met_from_instances}
 use Rattle.hc_canon.proofs.LaidOut.{AllIn, all_nodes_of, all_memories_of, all_instances_of}
-
-one_of : {X : Type 0} {x y : X} → Has (x ∷ []) y → x ≡ y
-one_of first = refl
-one_of (later h) = elim h [ ]
-
-differ_more : {X : Type 0} (xs : List X) (x : X) → AllDifferent xs → ¬ Has xs x → AllDifferent (xs ++ x ∷ [])
-differ_more [] x d n = ((λ h. elim h [ ]), tt)
-differ_more (y ∷ xs) x d n = (
-  (λ h. elim (has_cases xs (x ∷ []) h) [ inl a ↦ d.0 a | inr b ↦ n (subst (λ z. Has (y ∷ xs) z) (sym (one_of b)) first) ]),
-  differ_more xs x d.1 (λ h. n (later h)),
-)
-
--- a walk meets each vertex once
-walk_differs : (g : Graph) {met waiting end : List Vertex} → DepthFirst g met waiting end → AllDifferent met → AllDifferent end
-walk_differs g over d = d
-walk_differs g (again h w) d = walk_differs g w d
-walk_differs g (new {met = ms} {p = p} n w) d = walk_differs g w (differ_more ms p d n)
-
-pub ends_differ : (g : Graph) {end : List Vertex} → NumbersTo g end → AllDifferent end
-ends_differ g w = walk_differs g w tt
 
 counted_differ : (o : Option NodeRow) (n : ℕ) (ns : List ℕ) → AllDifferent ns → ¬ Has ns n → AllDifferent (counted o n ++ ns)
 counted_differ None n ns d h = (h, d)

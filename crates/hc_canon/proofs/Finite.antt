@@ -1,6 +1,7 @@
 -- A list of different elements is no longer than a list that has them all.
 use Rattle.std.proofs.Common.{◌≡◌, suc, ◌≤◌, List, [], ◌∷◌, length, refl, subst, ap, arith}
 use Rattle.hc_signal.specs.Member.{Has, first, later}
+use Rattle.hc_walk.proofs.Walks.{AllDifferent}
 
 -- the list without the element at a place
 without : {X : Type 0} {x : X} {xs : List X} → Has xs x → List X
@@ -19,11 +20,6 @@ has_without first first n = absurd (n refl)
 has_without first (later k) n = k
 has_without (later h) first n = first
 has_without (later h) (later k) n = later (has_without h k n)
-
--- no element stands twice
-abbrev pub AllDifferent : {X : Type 0} → List X → Type 0
-AllDifferent [] = Unit {0}
-AllDifferent (x ∷ xs) = ¬ Has xs x × AllDifferent xs
 
 pub no_more : {X : Type 0} (xs ys : List X) → AllDifferent xs → ((z : X) → Has xs z → Has ys z) → length xs ≤ length ys
 no_more [] ys d s = omega arith

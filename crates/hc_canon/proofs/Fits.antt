@@ -3,16 +3,18 @@ use Rattle.std.proofs.Common.{◌≡◌, ℕ, zero, suc, ◌+◌, ◌<◌, ◌�
 use Rattle.std.specs.Prelude.{replicate}
 use Rattle.std.proofs.lemmas.List.{length-map}
 use Rattle.hc_signal.specs.Member.{Has, first, later}
-use Rattle.hc_canon.proofs.Members.{has_from_map}
+use Rattle.hc_walk.proofs.Members.{has_from_map}
+use Rattle.hc_walk.proofs.Walks.{AllDifferent, ends_differ}
 use Rattle.hc_signal.specs.Graph.{Graph, Vertex}
 use Rattle.hc_signal.specs.Lawful.{IsLawful}
 use Rattle.hc_signal.specs.Renumber.{Renumbering}
-use Rattle.hc_canon.specs.Numbering.{NumbersTo, count_from, nodes_met, memories_met, instances_met}
+use Rattle.hc_walk.specs.DepthFirst.{NumbersTo}
+use Rattle.hc_canon.specs.Numbering.{count_from, nodes_met, memories_met, instances_met}
 use Rattle.hc_canon.specs.Numbers.{input_number, numbered, by_tables}
 use Rattle.hc_canon.specs.Layout.{AreNumbers}
 use Rattle.hc_canon.proofs.Canonical.{count_has}
-use Rattle.hc_canon.proofs.Finite.{AllDifferent, no_more}
-use Rattle.hc_canon.proofs.Counting.{Below, are_numbers, ends_differ, memories_differ, instances_differ, in_below}
+use Rattle.hc_canon.proofs.Finite.{no_more}
+use Rattle.hc_canon.proofs.Counting.{Below, are_numbers, memories_differ, instances_differ, in_below}
 use Rattle.hc_canon.proofs.LaidOut.{all_memories_of, all_instances_of, back, node_there}
 
 has_count : (n a k : ℕ) → Has (count_from a n) k → (a ≤ k) × (k < a + n)

@@ -3,7 +3,9 @@ use Rattle.std.proofs.Common.{◌≡◌, ℕ, List, [], ◌∷◌, ◌++◌, map
 use Rattle.std.proofs.lemmas.List.{map-append}
 use Rattle.std.specs.Prelude.{slice_get, Option, Some, None, option_map}
 use Rattle.hc_signal.specs.Member.{Has}
-use Rattle.hc_canon.proofs.Members.{has_map, has_from_map}
+use Rattle.hc_walk.specs.DepthFirst.{NumbersTo}
+use Rattle.hc_walk.proofs.Members.{has_map, has_from_map}
+use Rattle.hc_walk.proofs.Along.{walks_along}
 use Rattle.hc_canon.proofs.Renumbered.{same_numbers, row_same, memory_same, instance_same, renumber_same, then, Fixes, number, ids_then, ids_fixed, renumber_then, row_then, memory_then, instance_then, row_fixed, memory_fixed, instance_fixed}
 use Rattle.hc_signal.specs.declared.signal.NodeId.{NodeId}
 use Rattle.hc_signal.specs.declared.signal.NodeRow.{NodeRow}
@@ -103,6 +105,14 @@ reached_from to back g h e (further p q r c) =
     let at : Has (fanin h (renumber to f.0)) q = subst (λ x. Has (fanin h x) q) (sym f.2) c in
     let m : _ = has_from_map (renumber to) (fanin g f.0) q (subst (λ l. Has l q) (fanin_paired to back g h e f.0 f.1) at) in
     (m.0, further f.0 m.0 f.1 m.1, m.2)
+
+-- partners are apart, and the walk goes along
+module _ (to back : Renumbering) (g h : Graph) (e : IsIsomorphism to back g h) where
+  pub partners_equal : (p q : Vertex) → Reached g p → Reached g q → renumber to p ≡ renumber to q → p ≡ q
+  partners_equal p q r s u = sym (e.one_to_one p r) ∙ ap (renumber back) u ∙ e.one_to_one q s
+
+  pub walk_along : {end : List Vertex} → NumbersTo g end → NumbersTo h (map (renumber to) end)
+  walk_along w = walks_along g h (renumber to) partners_equal (λ p r. fanin_paired to back g h e p r) (outputs_paired to back g h e) w
 
 -- isomorphisms compose
 pub isomorphism_then : (to back out home : Renumbering) (g h k : Graph) → IsIsomorphism to back g h → IsIsomorphism out home h k → IsIsomorphism (then to out) (then home back) g k

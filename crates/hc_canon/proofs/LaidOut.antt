@@ -10,11 +10,13 @@ use Rattle.hc_signal.specs.Graph.{Graph, Vertex, node, mem, inst, Reached}
 use Rattle.hc_signal.specs.Lawful.{IsLawful, IsLawfulNode, NodeAt}
 use Rattle.hc_signal.specs.Renumber.{Renumbering, renumber, row_by, node_by, memory_by, instance_by}
 use Rattle.hc_canon.specs.Same.{IsIsomorphism}
-use Rattle.hc_canon.specs.Numbering.{NumbersTo, IsCanonical, counted, nodes_met, memories_met, instances_met, count_from, input_row}
+use Rattle.hc_walk.specs.DepthFirst.{NumbersTo}
+use Rattle.hc_canon.specs.Numbering.{IsCanonical, counted, nodes_met, memories_met, instances_met, count_from, input_row}
 use Rattle.hc_canon.specs.Layout.{input_rows, picked, laid_out, AreNumbers}
-use Rattle.hc_canon.proofs.Walks.{walk_complete, walk_sound, walks_along}
-use Rattle.hc_canon.proofs.InRange.{reached_row}
-use Rattle.hc_canon.proofs.Members.{has_slice}
+use Rattle.hc_walk.proofs.Walks.{walk_complete, walk_sound}
+use Rattle.hc_canon.proofs.Isomorphisms.{walk_along}
+use Rattle.hc_walk.proofs.InRange.{reached_row}
+use Rattle.hc_walk.proofs.Members.{has_slice}
 use Rattle.hc_canon.proofs.Canonical.{counted_cases, nodes_met_has, met_from_nodes, memories_met_has, met_from_memories, instances_met_has, met_from_instances, memories_met_by, instances_met_by, nodes_met_by, two, some_within}
 
 -- where an element stands
@@ -215,7 +217,7 @@ module _ (g : Graph) (l : IsLawful g) (end : List Vertex) (w : NumbersTo g end) 
   pub laid_out_canonical : IsCanonical (laid_out g end to)
   laid_out_canonical = record {
     end = map (renumber to) end;
-    walk = walks_along to back g (laid_out g end to) laid_out_isomorphism w;
+    walk = walk_along to back g (laid_out g end to) laid_out_isomorphism w;
     inputs = input_at;
     nodes = (
       (let e : length (laid_out g end to).nodes ≡ length g.ports.inputs + length (nodes_met g end) = nodes_length in omega (arith, e)),

@@ -1,9 +1,6 @@
-pub mod Members
 pub mod Renumbered
 pub mod Isomorphisms
-pub mod Walks
 pub mod Canonical
-pub mod InRange
 pub mod Finite
 pub mod LaidOut
 pub mod Counting
@@ -11,7 +8,5 @@ pub mod Fits
 pub mod Transport
 pub mod Carried
 pub mod Decided
-pub mod Walking
 pub mod Exists
-pub mod Waits
 pub mod Picks

@@ -4,7 +4,7 @@ use Rattle.std.proofs.lemmas.List.{length-map}
 use Rattle.std.proofs.lemmas.Option.{slice_get-map}
 use Rattle.std.specs.Prelude.{slice_get, Option, Some, None, option_map, unwrap_or}
 use Rattle.hc_signal.specs.Member.{Has, first, later}
-use Rattle.hc_canon.proofs.Members.{has_map, has_from_map, has_left, has_right, has_slice}
+use Rattle.hc_walk.proofs.Members.{has_map, has_from_map, has_left, has_right, has_slice}
 use Rattle.hc_signal.specs.declared.signal.Port.{Port}
 use Rattle.hc_signal.specs.declared.signal.NodeId.{NodeId}
 use Rattle.hc_signal.specs.declared.signal.InstId.{InstId}
@@ -19,12 +19,13 @@ use Rattle.hc_signal.specs.Graph.{Graph, Vertex, node, mem, inst, Reached, outpu
 use Rattle.hc_signal.specs.Lawful.{IsLawful, IsLawfulNode, IsLawfulWrite, IsLawfulMemory, IsLawfulInstance, NodeAt, HasWidth, HaveWidths, MayHaveWidth, MayClear, AllHaveWidth}
 use Rattle.hc_signal.specs.Renumber.{Renumbering, renumber, id_by, clear_by, row_by, node_by, write_by, memory_by, instance_by}
 use Rattle.hc_canon.specs.Same.{IsIsomorphism}
-use Rattle.hc_canon.specs.Numbering.{NumbersTo, nodes_met, memories_met, instances_met, input_row}
+use Rattle.hc_walk.specs.DepthFirst.{NumbersTo}
+use Rattle.hc_canon.specs.Numbering.{nodes_met, memories_met, instances_met, input_row}
 use Rattle.hc_signal.specs.Checked.{IsChecked}
 use Rattle.hc_canon.specs.Layout.{input_rows, picked, laid_out, AreNumbers}
 use Rattle.hc_canon.proofs.Renumbered.{number}
-use Rattle.hc_canon.proofs.Isomorphisms.{reached_from, HasPartner}
-use Rattle.hc_canon.proofs.Walks.{walk_sound, AllReached, partners_equal}
+use Rattle.hc_canon.proofs.Isomorphisms.{reached_from, HasPartner, partners_equal}
+use Rattle.hc_walk.proofs.Walks.{walk_sound, AllReached}
 use Rattle.hc_canon.proofs.Canonical.{met_from_nodes, met_from_memories, met_from_instances}
 use Rattle.hc_canon.proofs.LaidOut.{has_index, slice_cases, input_rows_at, input_rows_length, picked_from, IsPicked, back, all_nodes, all_memories, all_instances, laid_out_isomorphism, input_at, nodes_length, picked_length}
 use Rattle.hc_canon.proofs.Fits.{nodes_fit, memories_fit, instances_fit}

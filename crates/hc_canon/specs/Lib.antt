@@ -3,5 +3,4 @@ pub mod Numbering
 pub mod FormView
 pub mod Layout
 pub mod Numbers
-pub mod Steps
 pub mod Hashing

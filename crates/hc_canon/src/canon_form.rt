@@ -6,9 +6,9 @@ use crate::form::{EntryId, Form};
 use crate::layout::lay_out;
 use crate::numbers::{numbers_of, order_of};
 use crate::renumber::pick;
-use crate::walk::walk;
 use hc_fault::{ItemList, NoMemory};
 use hc_signal::Circuit;
+use hc_walk::walk;
 use std::alloc::Global;
 
 /// The form of a checked circuit and of the entries of its instances, one for each instance in order. It holds what the

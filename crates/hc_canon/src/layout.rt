@@ -1,14 +1,14 @@
 ghost use Rattle.std.specs.Prelude.{◌≡◌, ◌≤◌, length, IfOk};
 ghost use Rattle.hc_canon.specs.Layout.{AreNumbers, input_rows, laid_out};
-ghost use Rattle.hc_canon.specs.Numbering.{NumbersTo};
+ghost use Rattle.hc_walk.specs.DepthFirst.{NumbersTo};
 ghost use Rattle.hc_canon.specs.Numbers.{IsOrderOf, renumbering};
-ghost use Rattle.hc_canon.specs.Steps.{vertices};
+ghost use Rattle.hc_walk.specs.VertexId.{vertices_of};
 
 use crate::numbers::{Numbers, Order};
 use crate::renumber::{new_ids, pick, ports_copy};
-use crate::waiting::Place;
 use hc_fault::{ItemList, NoMemory};
 use hc_signal::{Circuit, Node, NodeRow, Port};
+use hc_walk::VertexId;
 use std::alloc::Global;
 
 fn make_inputs(alloc: Global, ports: &[Port]) -> Result<Vec<NodeRow>, NoMemory>
@@ -30,15 +30,15 @@ fn make_inputs(alloc: Global, ports: &[Port]) -> Result<Vec<NodeRow>, NoMemory>
 pub fn lay_out(
     alloc: Global,
     circuit: &Circuit,
-    met: &[Place],
+    met: &[VertexId],
     order: &Order,
     numbers: &Numbers,
 ) -> Result<Circuit, NoMemory>
-    requires walk { NumbersTo circuit.now (vertices met.now) }
-    requires numbers { AreNumbers circuit.now (vertices met.now) (renumbering numbers.now) }
-    requires order { IsOrderOf circuit.now (vertices met.now) order.now }
+    requires walk { NumbersTo circuit.now (vertices_of met.now) }
+    requires numbers { AreNumbers circuit.now (vertices_of met.now) (renumbering numbers.now) }
+    requires order { IsOrderOf circuit.now (vertices_of met.now) order.now }
     requires few { length circuit.now.ports.inputs ≤ 128 }
-    ensures { IfOk result (λ made. made ≡ laid_out circuit.now (vertices met.now) (renumbering numbers.now)) }
+    ensures { IfOk result (λ made. made ≡ laid_out circuit.now (vertices_of met.now) (renumbering numbers.now)) }
 {
     circuit.lawful();
     let _ = met;

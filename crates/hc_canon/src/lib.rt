@@ -9,8 +9,6 @@ mod laws;
 mod layout;
 mod numbers;
 mod renumber;
-mod waiting;
-mod walk;
 
 pub use canon_form::canon;
 pub use equal::same;

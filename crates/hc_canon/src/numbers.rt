@@ -1,14 +1,15 @@
 ghost use Rattle.std.specs.Prelude.{◌≡◌, ◌≤◌, ◌+◌, ◌++◌, ◌∷◌, [], length, map, replicate, slice_get, if◌then◌else◌, IfOk, OnOk, Some, ℕ};
 ghost use Rattle.std.proofs.Math.ListN.{set};
 ghost use Rattle.hc_canon.specs.Layout.{AreNumbers};
-ghost use Rattle.hc_canon.specs.Numbering.{counted, instances_met, memories_met, nodes_met, NumbersTo};
+ghost use Rattle.hc_canon.specs.Numbering.{counted, instances_met, memories_met, nodes_met};
+ghost use Rattle.hc_walk.specs.DepthFirst.{NumbersTo};
 ghost use Rattle.hc_canon.specs.Numbers.{input_number, IsOrderOf, numbered, port_of, renumbering};
 ghost use Rattle.hc_signal.specs.declared.signal.NodeRow.{NodeRow};
-ghost use Rattle.hc_canon.specs.Steps.{vertex_of, vertices};
+ghost use Rattle.hc_walk.specs.VertexId.{vertex_of, vertices_of};
 
-use crate::waiting::Place;
 use hc_fault::NoMemory;
 use hc_signal::{Circuit, Node, NodeRow};
+use hc_walk::VertexId;
 use std::alloc::Global;
 
 /// The old numbers of what was met, in order; of the nodes those that are no inputs.
@@ -54,35 +55,35 @@ fn note_node(circuit: &Circuit, nodes: &mut Vec<u32>, n: u32) -> Result<(), NoMe
     }
 }
 
-fn note(circuit: &Circuit, order: &mut Order, place: Place) -> Result<(), NoMemory>
-    ensures nodes { OnOk result (order.new.nodes.items ≡ order.old.nodes.items ++ nodes_met circuit.now (vertex_of place ∷ [])) }
-    ensures memories { OnOk result (order.new.memories.items ≡ order.old.memories.items ++ memories_met (vertex_of place ∷ [])) }
-    ensures instances { OnOk result (order.new.instances.items ≡ order.old.instances.items ++ instances_met (vertex_of place ∷ [])) }
+fn note(circuit: &Circuit, order: &mut Order, vertex: VertexId) -> Result<(), NoMemory>
+    ensures nodes { OnOk result (order.new.nodes.items ≡ order.old.nodes.items ++ nodes_met circuit.now (vertex_of vertex ∷ [])) }
+    ensures memories { OnOk result (order.new.memories.items ≡ order.old.memories.items ++ memories_met (vertex_of vertex ∷ [])) }
+    ensures instances { OnOk result (order.new.instances.items ≡ order.old.instances.items ++ instances_met (vertex_of vertex ∷ [])) }
 {
-    match place {
-        Place::Node(n) => note_node(circuit, &mut order.nodes, n),
-        Place::Memory(m) => {
-            order.memories.push(m)?;
+    match vertex {
+        VertexId::Node(id) => note_node(circuit, &mut order.nodes, id.0),
+        VertexId::Memory(id) => {
+            order.memories.push(id.0)?;
             Ok(())
         }
-        Place::Instance(i) => {
-            order.instances.push(i)?;
+        VertexId::Instance(id) => {
+            order.instances.push(id.0)?;
             Ok(())
         }
     }
 }
 
 /// What was met, kind by kind.
-pub fn order_of(alloc: Global, circuit: &Circuit, met: &[Place]) -> Result<Order, NoMemory>
-    ensures { IfOk result (IsOrderOf circuit.now (vertices met.now)) }
+pub fn order_of(alloc: Global, circuit: &Circuit, met: &[VertexId]) -> Result<Order, NoMemory>
+    ensures { IfOk result (IsOrderOf circuit.now (vertices_of met.now)) }
 {
     let mut order = Order {
         nodes: Vec::new(alloc),
         memories: Vec::new(alloc),
         instances: Vec::new(alloc),
     };
-    'places: for place in met {
-        note(circuit, &mut order, *place)?;
+    'vertices: for vertex in met {
+        note(circuit, &mut order, *vertex)?;
     }
     Ok(order)
 }
@@ -129,13 +130,13 @@ fn number_all(table: &mut Vec<u32>, order: &[u32], start: u32)
 pub fn numbers_of(
     alloc: Global,
     circuit: &Circuit,
-    met: &[Place],
+    met: &[VertexId],
     order: &Order,
 ) -> Result<Numbers, NoMemory>
     requires few { length circuit.now.ports.inputs ≤ 128 }
-    requires walk { NumbersTo circuit.now (vertices met.now) }
-    requires order { IsOrderOf circuit.now (vertices met.now) order.now }
-    ensures { IfOk result (λ numbers. AreNumbers circuit.now (vertices met.now) (renumbering numbers)) }
+    requires walk { NumbersTo circuit.now (vertices_of met.now) }
+    requires order { IsOrderOf circuit.now (vertices_of met.now) order.now }
+    ensures { IfOk result (λ numbers. AreNumbers circuit.now (vertices_of met.now) (renumbering numbers)) }
 {
     circuit.lawful();
     let _ = met;

@@ -3,7 +3,7 @@ use Rattle.hc_signal.specs.Lawful.{IsLawful}
 use Rattle.hc_canon.specs.Layout.{input_rows, laid_out, picked}
 use Rattle.hc_canon.specs.Numbers.{renumbering}
 use Rattle.hc_signal.specs.Renumber.{row_by}
-use Rattle.hc_canon.specs.Steps.{vertices}
+use Rattle.hc_walk.specs.VertexId.{vertices_of}
 use Rattle.hc_canon.proofs.Transport.{laid_out_lawful}
 use Rattle.hc_canon.proofs.Carried.{laid_out_lists}
 use Rattle.hc_canon.proofs.layout.lay_out.Goals as goal
@@ -11,7 +11,7 @@ use Rattle.hc_canon.proofs.layout.lay_out.Goals as goal
 pub of_parts-requires : goal.of_parts-requires
 of_parts-requires c =
     let g = c.args.circuit.now in
-    let end = vertices c.args.met.now in
+    let end = vertices_of c.args.met.now in
     let to = renumbering c.args.numbers.now in
     let a : c.in_ok-ports.ports ≡ g.ports = search rules in
     let b : c.in_ok-outputs.outputs ≡ (laid_out g end to).outputs = search rules in

@@ -18,3 +18,6 @@ pub use laws::{
     canonical_forms_are_single, canonical_forms_exist, equal_forms_have_equal_hashes,
     forms_decide_isomorphism, same_is_an_equivalence,
 };
+
+#[cfg(test)]
+mod tests;

@@ -1,6 +1,6 @@
 -- The circuit laid out by a walk, with the kids of the instances that it met, is the form.
-use Rattle.std.proofs.Common.{◌≡◌, ℕ, ◌<◌, List, length, refl, sym, subst, ◌∙◌, ap}
-use Rattle.std.specs.Prelude.{slice_get, Option, Some, None, option_map}
+use Rattle.std.proofs.Common.{◌≡◌, ℕ, zero, suc, ◌<◌, List, [], ◌∷◌, ◌++◌, length, refl, sym, subst, ◌∙◌, ap}
+use Rattle.std.specs.Prelude.{slice_get, Option, Some, None, option_map, option_to_list}
 use Rattle.std.proofs.lemmas.Option.{slice_get_within}
 use Rattle.hc_canon.specs.declared.form.EntryId.{EntryId}
 use Rattle.hc_signal.specs.declared.signal.Ports.{Ports}
@@ -10,6 +10,7 @@ use Rattle.hc_signal.specs.declared.signal.Memory.{Memory}
 use Rattle.hc_signal.specs.declared.signal.Instance.{Instance}
 use Rattle.hc_signal.specs.Graph.{Graph, Vertex, inst, Reached}
 use Rattle.hc_signal.specs.Lawful.{IsLawful}
+use Rattle.hc_signal.specs.Member.{Has, first, later}
 use Rattle.hc_signal.specs.Renumber.{Renumbering, instance_by}
 use Rattle.hc_walk.specs.DepthFirst.{NumbersTo}
 use Rattle.hc_canon.specs.Numbering.{instances_met}
@@ -32,6 +33,21 @@ map_nothing : {X : Type 0} (o : Option X) → option_map (λ x. x) o ≡ o
 map_nothing None = refl
 map_nothing (Some x) = refl
 
+has_got : {X : Type 0} (xs : List X) (n : ℕ) (x : X) → slice_get xs n ≡ Some x → Has xs x
+has_got [] n x e = absurd cc
+has_got (y ∷ xs) zero x e = let s : y ≡ x = cc in subst (Has (y ∷ xs)) s first
+has_got (y ∷ xs) (suc n) x e = later (has_got xs n x e)
+
+picked_one : {X : Type 0} (xs picks : List X) (n : ℕ) (x : X) (o : Option X) → slice_get xs n ≡ o → (Has picks x → Has xs x) → Has (option_to_list (option_map (λ y. y) o) ++ picks) x → Has xs x
+picked_one xs picks n x None e rest h = rest h
+picked_one xs picks n x (Some y) e rest first = has_got xs n y e
+picked_one xs picks n x (Some y) e rest (later h) = rest h
+
+-- what was picked is of the list
+picked_known : {X : Type 0} (xs : List X) (ns : List ℕ) (x : X) → Has (picked (λ y. y) xs ns) x → Has xs x
+picked_known xs [] x h = elim h [ ]
+picked_known xs (n ∷ ns) x h = picked_one xs (picked (λ y. y) xs ns) n x (slice_get xs n) refl (picked_known xs ns x) h
+
 module _ (g : Graph) (l : IsLawful g) (ch : IsChecked g) (end : List Vertex) (w : NumbersTo g end) (to : Renumbering) (are : AreNumbers g end to) (ids : List EntryId) (many : length ids ≡ length g.instances) where
   abbrev made : FormView
   made = record { circuit = laid_out g end to; kids = picked (λ id. id) ids (instances_met end) }
@@ -53,7 +69,7 @@ module _ (g : Graph) (l : IsLawful g) (ch : IsChecked g) (end : List Vertex) (w 
       ap (slice_get made.kids) (are.instances at.0 i at.1) ∙ picked_at (λ id. id) ids (instances_met end) kids_in at.0 i at.1 ∙ map_nothing (slice_get ids i)
 
   pub is_canon : IsCanonOf g ids made
-  is_canon = record { form = makes_form; to = to; back = back g l end w to are; isomorphism = laid_out_isomorphism g l end w to are; kids = kid_carried }
+  is_canon = record { form = makes_form; to = to; back = back g l end w to are; isomorphism = laid_out_isomorphism g l end w to are; kids = kid_carried; known = picked_known ids (instances_met end) }
 
   pub form_made : (circuit : Graph) (kids : List EntryId) → circuit ≡ laid_out g end to → kids ≡ picked (λ id. id) ids (instances_met end) → IsForm (record { circuit = circuit; kids = kids })
   form_made circuit kids a b = let e : made ≡ record { circuit = circuit; kids = kids } = (λ i. record { circuit = sym a i; kids = sym b i }) in subst IsForm e makes_form

@@ -2,6 +2,7 @@
 use Rattle.std.specs.Prelude.{◌≡◌, ℕ, List, length, slice_get}
 use Rattle.hc_canon.specs.declared.form.EntryId.{EntryId}
 use Rattle.hc_signal.specs.Graph.{Graph, inst, Reached}
+use Rattle.hc_signal.specs.Member.{Has}
 use Rattle.hc_signal.specs.Lawful.{IsLawful}
 use Rattle.hc_signal.specs.Checked.{IsChecked}
 use Rattle.hc_signal.specs.Renumber.{Renumbering}
@@ -20,13 +21,14 @@ pub record IsForm (f : FormView) : Type 0 where
   pub kids : length f.kids ≡ length f.circuit.instances
 
 -- The form of a circuit and of the entries of its instances: its circuit is isomorphic to that one,
--- and each instance that the outputs reach has its entry at the new number.
+-- each instance that the outputs reach has its entry at the new number, and there are no other entries.
 pub record IsCanonOf (g : Graph) (ids : List EntryId) (f : FormView) : Type 0 where
   pub form : IsForm f
   pub to : Renumbering
   pub back : Renumbering
   pub isomorphism : IsIsomorphism to back g f.circuit
   pub kids : (i : ℕ) → Reached g (inst i) → slice_get f.kids (to.inst i) ≡ slice_get ids i
+  pub known : (id : EntryId) → Has f.kids id → Has ids id
 
 -- The circuits are isomorphic, and paired instances have the same entry.
 abbrev pub AreIsomorphic : Graph → List EntryId → Graph → List EntryId → Type 0

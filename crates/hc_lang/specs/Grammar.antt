@@ -104,7 +104,7 @@ pub data AreNums : Tokens → List Num → Type 0 where
   last : {ts : Tokens} {n : Num} → IsNum ts n → AreNums ts (n ∷ [])
   comma : {ts us : Tokens} {n : Num} {ns : List Num} → IsNum ts n → AreNums us ns → AreNums (ts ++ (Mark mark.Comma ∷ us)) (n ∷ ns)
 
--- atoms one behind the other
+-- atoms one after the other
 pub data AreAtoms : Tokens → List Num → Type 0 where
   none : AreAtoms [] []
   more : {ts us : Tokens} {n : Num} {ns : List Num} → IsAtom ts n → AreAtoms us ns → AreAtoms (ts ++ us) (n ∷ ns)
@@ -167,7 +167,7 @@ mutual
     all_nums : {ts : Tokens} {ns : List Num} → AreNums ts ns → AreParts ts [] ns
     both : {ts us : Tokens} {ss : List Sig} {ns : List Num} → AreSigs ts ss → AreNums us ns → AreParts (ts ++ (Mark mark.Comma ∷ us)) ss ns
 
--- connections one behind the other
+-- connections one after the other
 pub data AreConns : Tokens → List (Text × Sig) → Type 0 where
   none : AreConns [] []
   more : {ts us : Tokens} {s : Sig} {cs : List (Text × Sig)} (p : Text) → IsName p → IsSig ts s → AreConns us cs → AreConns (Word p ∷ Mark mark.Equals ∷ (ts ++ us)) ((p, s) ∷ cs)
@@ -225,18 +225,18 @@ pub data IsForm : Tokens → Line → Type 0 where
 
 -- ---- brackets
 
--- the open brackets behind a token
-abbrev pub brackets_behind : Token → ℕ → ℕ
-brackets_behind (Mark mark.OpenRound) n = n + 1
-brackets_behind (Mark mark.OpenSquare) n = n + 1
-brackets_behind (Mark mark.CloseRound) n = n - 1
-brackets_behind (Mark mark.CloseSquare) n = n - 1
-brackets_behind t n = n
+-- the open brackets after a token
+abbrev pub brackets_after : Token → ℕ → ℕ
+brackets_after (Mark mark.OpenRound) n = n + 1
+brackets_after (Mark mark.OpenSquare) n = n + 1
+brackets_after (Mark mark.CloseRound) n = n - 1
+brackets_after (Mark mark.CloseSquare) n = n - 1
+brackets_after t n = n
 
 -- the most brackets that are open at a place, with `n` open before
 abbrev pub most_open : ℕ → Tokens → ℕ
 most_open n [] = n
-most_open n (t ∷ ts) = max n (most_open (brackets_behind t n) ts)
+most_open n (t ∷ ts) = max n (most_open (brackets_after t n) ts)
 
 -- The tokens are a line of the grammar that says this.
 pub record IsLine (ts : Tokens) (l : Line) : Type 0 where

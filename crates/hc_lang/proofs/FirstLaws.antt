@@ -1,5 +1,5 @@
 -- A text is of the first form exactly where a design is read from it.
-use Rattle.std.proofs.Common.{◌≡◌, ℕ, ◌≤◌, true, cond, nat_le, List, [], ◌∷◌, length, Option, Some, None, refl, sym, ◌∙◌, ap, subst, arith}
+use Rattle.std.proofs.Common.{◌≡◌, ℕ, ◌≤◌, true, cond, nat_le, List, length, Option, Some, None, refl, sym, ◌∙◌, ap, subst, arith}
 use Rattle.std.specs.List.{list_all}
 use Rattle.std.proofs.lemmas.List.Sums.{AllPass-from_list_all, list_all-from_AllPass}
 use Rattle.std.proofs.lemmas.Bool.Decides.{nat_tests}
@@ -15,11 +15,11 @@ use Rattle.hc_lang.specs.Grammar.{Text}
 use Rattle.hc_lang.specs.Reads.{Row, HasRows}
 use Rattle.hc_lang.specs.SigReading.{bind}
 use Rattle.hc_lang.specs.RowReading.{rows_from}
-use Rattle.hc_lang.specs.FirstForm.{are_plain, is_width, AreSmall, IsLawful, IsFirst}
+use Rattle.hc_lang.specs.FirstForm.{are_plain, is_width, IsLawful, IsFirst}
 use Rattle.hc_lang.specs.FirstReading.{steps, single, finished, is_lawful, has_plain_widths, by_rows, first_of}
 use Rattle.hc_lang.proofs.Fronts.{bind-some, cond-some}
 use Rattle.hc_lang.proofs.RowLaws.{rows_read, rows_are}
-use Rattle.hc_lang.proofs.FirstRows.{rows_found, AllRows, rows_are_small}
+use Rattle.hc_lang.proofs.FirstRows.{rows_found, rows_are_small}
 use Rattle.hc_lang.proofs.FirstRules.{lawful_is, lawful_found}
 
 within_test : (a b : ℕ) → a ≤ b → nat_le a b ≡ true

@@ -12,10 +12,10 @@ use Rattle.hc_lang.specs.declared.small_line.FirstLine.TheVariants as first
 use Rattle.hc_lang.specs.declared.assembly.Stage.{Stage}
 use Rattle.hc_lang.specs.declared.assembly.Stage.TheVariants as stage
 use Rattle.hc_lang.specs.Tokens.{same_bytes}
-use Rattle.hc_lang.specs.Grammar.{Text, Line, Circuit, Top}
+use Rattle.hc_lang.specs.Grammar.{Text, Circuit, Top}
 use Rattle.hc_lang.specs.Reads.{Row}
 use Rattle.hc_lang.specs.SigReading.{bind}
-use Rattle.hc_lang.specs.FirstForm.{statement, statement_row, head_line, is_width, IsCircuit, AreSmall}
+use Rattle.hc_lang.specs.FirstForm.{statement, statement_row, head_line, is_width, AreSmall}
 use Rattle.hc_lang.specs.FirstReading.{first_line, opened, with_head, with_line, closed, step, next, steps, single}
 use Rattle.hc_lang.proofs.Fronts.{bind-some, cond-some}
 use Rattle.hc_lang.proofs.NumbersSound.{same_bytes-equal}

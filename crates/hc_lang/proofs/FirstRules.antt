@@ -1,13 +1,13 @@
 -- The rules of the first form as tests.
-use Rattle.std.proofs.Common.{◌≡◌, ℕ, ◌≤◌, Bool, true, false, not, ◌&&◌, nat_le, nat_eq, List, [], length, ◌++◌, count_by, refl, sym, ◌∙◌, ap, arith}
-use Rattle.std.specs.List.{list_all, AllPass}
+use Rattle.std.proofs.Common.{◌≡◌, ℕ, ◌≤◌, Bool, true, not, ◌&&◌, nat_le, nat_eq, [], length, ◌++◌, count_by, ◌∙◌, ap, arith}
+use Rattle.std.specs.List.{list_all}
 use Rattle.std.proofs.lemmas.List.Sums.{AllPass-from_list_all, list_all-from_AllPass}
 use Rattle.std.proofs.lemmas.Bool.Decides.{nat_tests}
 use Rattle.hc_lang.specs.declared.small.SmallCircuit.{SmallCircuit}
 use Rattle.hc_lang.specs.Tokens.{same_bytes}
 use Rattle.hc_lang.specs.Words.{is_barred, is_reserved}
 use Rattle.hc_lang.specs.FirstForm.{is_among, ports, inputs, outputs, made, targets, signal_of, names_any, is_width, IsLawful}
-use Rattle.hc_lang.specs.FirstReading.{differ_from, counts_by, counts_fit, names_fit, drives_fit, signals_fit, uses_fit, is_lawful}
+use Rattle.hc_lang.specs.FirstReading.{differ_from, counts_fit, names_fit, drives_fit, signals_fit, uses_fit, is_lawful}
 use Rattle.hc_lang.proofs.Distinct.{differ-distinct, distinct-differ, and-true, not-true}
 
 within : (a b : ℕ) → nat_le a b ≡ true → a ≤ b

@@ -1,5 +1,5 @@
 -- The first form of texts: one circuit of ports, `let` lines and `assign` lines, whose signals are names and sums.
-use Rattle.std.specs.Prelude.{◌≡◌, ℕ, ◌+◌, ◌≤◌, nat_le, nat_eq, Bool, true, false, not, ◌&&◌, ◌||◌, IsTrue, List, [], ◌∷◌, ◌++◌, map, filter, flat_map, length, count_by, Option, Some, None, pos, codes}
+use Rattle.std.specs.Prelude.{◌≡◌, ℕ, ◌≤◌, nat_le, nat_eq, Bool, true, false, not, ◌&&◌, ◌||◌, List, [], ◌∷◌, ◌++◌, map, filter, flat_map, length, count_by, Option, Some, None, pos, codes}
 use Rattle.std.specs.List.{AllPass, list_any, IsDistinct}
 use Rattle.hc_lang.specs.declared.token.Token.TheVariants.{Word}
 use Rattle.hc_lang.specs.declared.tree.CallWord.TheVariants as word

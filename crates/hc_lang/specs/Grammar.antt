@@ -1,5 +1,5 @@
 -- The line grammar: which tokens spell a number, a signal and a line.
-use Rattle.std.specs.Prelude.{◌≡◌, ◌⊎◌, ℕ, zero, suc, ◌+◌, ◌-◌, ◌≤◌, max, Bool, true, false, IsTrue, List, [], ◌∷◌, ◌++◌, map, length, Option, Some, None, ℤ, pos, neg_ℤ, int_le, codes}
+use Rattle.std.specs.Prelude.{◌≡◌, ℕ, suc, ◌+◌, ◌-◌, ◌≤◌, max, Bool, true, false, IsTrue, List, [], ◌∷◌, ◌++◌, map, length, Option, Some, None, ℤ, pos, neg_ℤ, int_le, codes}
 use Rattle.std.specs.List.{AllPass}
 use Rattle.hc_lang.specs.declared.token.Token.{Token}
 use Rattle.hc_lang.specs.declared.token.Token.TheVariants.{Word, Int, Sized, Operator, Mark}

@@ -128,6 +128,7 @@ kept_with_row g w x weight marks firsts kept room width node inner =
       total = (let e : _ = weight_with_row g (unlabelled w x) in let t : _ = kept.total in omega arith);
       marked = (let m : _ = length_push marks false in let n : _ = kept.marked in omega arith);
       wires = λ n b. marks_push (is_output g) (is_output g) (length g.nodes) marks false kept.marked kept.wires (λ k c. refl) (no_output_past g l (length g.nodes) (omega arith)) n (omega arith);
+      counted = kept.counted;
       first_nodes = λ i it e. (let was : _ = kept.first_nodes i it e in (was.0, was.1, outputs_left g.nodes _ i was.0 (length it.ports.outputs) was.2));
       few_ports = (let f : _ = kept.few_ports in omega arith);
     }

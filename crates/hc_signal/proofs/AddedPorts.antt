@@ -97,6 +97,7 @@ kept_with_input g name w weight marks firsts kept room width =
       total = (let e : _ = weight_with_row g new in let t : _ = kept.total in omega arith);
       marked = (let m : _ = length_push marks false in let n : _ = kept.marked in omega arith);
       wires = λ n b. marks_push (is_output g) (is_output g) (length g.nodes) marks false kept.marked kept.wires (λ k c. refl) (no_output_past g l (length g.nodes) (omega arith)) n (omega arith);
+      counted = kept.counted;
       first_nodes = λ i it e. (let was : _ = kept.first_nodes i it e in (was.0, was.1, outputs_left g.nodes _ i was.0 (length it.ports.outputs) was.2));
       few_ports = (let f : _ = kept.few_ports in let p : _ = length_push g.ports.inputs (port name w) in omega arith);
     }
@@ -207,6 +208,7 @@ kept_with_output g name w weight marks firsts kept room width =
       total = (let e : _ = weight_with_row g new in let t : _ = kept.total in omega arith);
       marked = (let m : _ = length_push marks true in let n : _ = kept.marked in omega arith);
       wires = λ n b. marks_push (is_output g) (λ k. list_any (test k) (g.outputs ++ id ∷ [])) (length g.nodes) marks true kept.marked kept.wires elsewhere here n (omega arith);
+      counted = kept.counted;
       first_nodes = λ i it e. (let was : _ = kept.first_nodes i it e in (was.0, was.1, outputs_left g.nodes _ i was.0 (length it.ports.outputs) was.2));
       few_ports = (let f : _ = kept.few_ports in let p : _ = length_push g.ports.outputs (port name w) in omega arith);
     }

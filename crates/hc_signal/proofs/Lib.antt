@@ -5,3 +5,4 @@ pub mod AddedPorts
 pub mod Follows
 pub mod Changed
 pub mod Drives
+pub mod AddedInstances

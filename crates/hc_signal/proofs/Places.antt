@@ -42,6 +42,10 @@ pub place_last : {X : Type 0} (xs : List X) (y : X) → slice_get (xs ++ y ∷ [
 place_last [] y = refl
 place_last (x ∷ xs) y = place_last xs y
 
+pub place_right : {X : Type 0} (xs ys : List X) (i : ℕ) → slice_get (xs ++ ys) (length xs + i) ≡ slice_get ys i
+place_right [] ys i = ap (slice_get ys) (omega arith)
+place_right (x ∷ xs) ys i = (let e : length (x ∷ xs) + i ≡ suc (length xs + i) = omega arith in ap (slice_get (x ∷ (xs ++ ys))) e) ∙ place_right xs ys i
+
 pub place_cases : {X : Type 0} (xs : List X) (y : X) (i : ℕ) (x : X) → slice_get (xs ++ y ∷ []) i ≡ Some x → (slice_get xs i ≡ Some x) ⊎ ((i ≡ length xs) × (y ≡ x))
 place_cases [] y zero x e = inr (refl, same_Some y x e)
 place_cases [] y (suc i) x e = cc

@@ -7,7 +7,10 @@ use Rattle.hc_signal.specs.Member.{Has}
 use Rattle.hc_signal.specs.declared.stop.BuildStop.{BuildStop}
 use Rattle.hc_signal.specs.declared.stop.BuildStop.TheVariants.{Fault, NoMemory}
 use Rattle.hc_signal.specs.declared.signal.Port.{Port}
+use Rattle.hc_signal.specs.declared.signal.Ports.{Ports}
 use Rattle.hc_signal.specs.declared.signal.NodeId.{NodeId}
+use Rattle.hc_signal.specs.declared.signal.InstId.{InstId}
+use Rattle.hc_signal.specs.declared.signal.Instance.{Instance}
 use Rattle.hc_signal.specs.declared.signal.NodeRow.{NodeRow}
 use Rattle.hc_signal.specs.declared.signal.Node.{Node}
 use Rattle.hc_signal.specs.declared.signal.Node.TheVariants.{Input, Wire, Const, Two, Not, Mux, Cat, Select, Reg, Read, InstOut, Op}
@@ -76,6 +79,28 @@ abbrev pub AddsOutput : Graph → Name → ℕ → Graph → NodeId → Type 0
 AddsOutput old name width new id =
     (new ≡ with_row (record old { ports = record { inputs = old.ports.inputs; outputs = old.ports.outputs ++ port name width ∷ [] }; outputs = old.outputs ++ id ∷ [] }) (unlabelled width (Wire None)))
     × (id.0 ≡ length old.nodes)
+
+-- ---- instances
+
+-- a node for each output of an instance, from its k-th on
+abbrev pub output_rows : ℕ → ℕ → List Port → List NodeRow
+output_rows i k [] = []
+output_rows i k (p ∷ ps) = unlabelled p.width (InstOut (record { 0 = i }) k) ∷ output_rows i (k + 1) ps
+
+-- one instance more, and a node for each of its outputs
+abbrev pub AddsInstance : Graph → Ports → List NodeId → Graph → InstId → Type 0
+AddsInstance old ports conns new id =
+    (new ≡ record old { nodes = old.nodes ++ output_rows id.0 0 ports.outputs; instances = old.instances ++ record { ports = ports; conns = conns; label = None } ∷ [] })
+    × (id.0 ≡ length old.instances)
+
+-- room for one instance more, with these outputs and connections
+abbrev pub HasRoomForInstance : Graph → List Port → List NodeId → Type 0
+HasRoomForInstance g outputs conns =
+    (length g.instances + 1 < 2 ^ 32) × (length g.nodes + length outputs < 2 ^ 32) × (graph_weight g + 1 + 2 * length conns + length outputs < 2 ^ 64)
+
+-- the instance and its output are there
+abbrev pub HasOutput : Graph → InstId → ℕ → Type 0
+HasOutput g inst port = (it : Instance) × (slice_get g.instances inst.0 ≡ Some it) × (port < length it.ports.outputs)
 
 -- ---- changed rows
 

@@ -22,5 +22,6 @@ pub record IsKept (g : Graph) (weight : ℕ) (marks : List Bool) (firsts : List 
   pub total : weight ≡ graph_weight g
   pub marked : length marks ≡ length g.nodes
   pub wires : (n : ℕ) → n < length g.nodes → slice_get marks n ≡ Some (is_output g n)
+  pub counted : length firsts ≡ length g.instances
   pub first_nodes : (i : ℕ) (it : Instance) → slice_get g.instances i ≡ Some it → (first : ℕ) × (slice_get firsts i ≡ Some first) × HasOutputsFrom g i it first
   pub few_ports : length g.ports.inputs + length g.ports.outputs ≤ length g.nodes

@@ -12,6 +12,7 @@ use hc_fault::ItemList;
 use std::alloc::Global;
 use std::marker::Model;
 
+mod instances;
 mod nodes;
 
 /// A circuit under construction. It is lawful after each call, and a refused call leaves it as it was.

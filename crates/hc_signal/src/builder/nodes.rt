@@ -121,6 +121,18 @@ impl Builder {
         Ok(self.add(width, Node::Two { op, a, b })?)
     }
 
+    /// Adds the complement of a node.
+    pub fn not(&mut self, a: NodeId) -> Result<NodeId, BuildStop>
+        requires room { HasRoom self.old 1 }
+        requires node { IsNode self.old a }
+        ensures made { IfOk result (AddsNode self.old (width_at self.old a) (node.Not a) self.new) }
+        ensures rule { Obeys result None }
+        ensures same { OnErr result (self.new ≡ self.old) }
+    {
+        let width = self.width(a);
+        Ok(self.add(width, Node::Not { a })?)
+    }
+
     /// Adds a node that stands for no port, without a label.
     pub(super) fn add(&mut self, width: u32, node: Node) -> Result<NodeId, NoMemory>
         requires room { HasRoom self.old (operands node) }

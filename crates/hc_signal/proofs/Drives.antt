@@ -13,12 +13,12 @@ use Rattle.hc_signal.specs.declared.signal.Node.TheVariants.{Input, Wire, Const,
 use Rattle.hc_signal.specs.Graph.{Graph}
 use Rattle.hc_signal.specs.Lawful.{IsLawful, HasWidth}
 use Rattle.hc_signal.specs.Weight.{node_weight, operands}
-use Rattle.hc_signal.specs.Rules.{rule, first_broken, drive_rule}
+use Rattle.hc_signal.specs.Rules.{rule, drive_rule}
 use Rattle.hc_signal.specs.Builds.{IsNode, IsWire, width_at, row_width, is_wire, is_driven, is_driven_at, is_inner, driven_from, change_at}
 use Rattle.hc_signal.specs.Kept.{IsKept}
 use Rattle.hc_signal.proofs.Places.{set_changes}
 use Rattle.hc_signal.proofs.Changed.{Replaces, kept_row}
-use Rattle.hc_signal.proofs.Follows.{test_holds, has_its_width}
+use Rattle.hc_signal.proofs.Follows.{test_holds, first_holds, has_its_width}
 
 -- the row that was read
 pub row_read : (g : Graph) (n : ℕ) (x : NodeRow) → n < length g.nodes → x ≡ get_or g.nodes n x → slice_get g.nodes n ≡ Some x
@@ -61,11 +61,7 @@ wire_weight (Op a b) w = cc
 
 -- the rule of a drive has the widths equal
 pub equal_widths : (v w : ℕ) (d : Bool) → drive_rule v w d ≡ None → v ≡ w
-equal_widths v w d e = eqb-true v w (test_holds fault.WidthMismatch (v == w) (first_holds (rule fault.WidthMismatch (v == w)) _ e))
-  where
-    first_holds : (a b : Option FaultKind) → first_broken a b ≡ None → a ≡ None
-    first_holds None b e = refl
-    first_holds (Some k) b e = e
+equal_widths v w d e = eqb-true v w (test_holds fault.WidthMismatch (v == w) (first_holds (rule fault.WidthMismatch (v == w)) _ e).0)
 
 module _ (g : Graph) (wire from : NodeId) (row : NodeRow) (l : IsLawful g) (there : slice_get g.nodes wire.0 ≡ Some row) (w : is_wire row.node ≡ true) (node : IsNode g from) (same : row.width ≡ width_at g from) where
   abbrev made : NodeRow

@@ -1,5 +1,5 @@
 -- Places in lists: after an append, and after a change of one element.
-use Rattle.std.proofs.Common.{◌≡◌, ◌≢◌, ℕ, zero, suc, ◌+◌, ◌<◌, ◌⊎◌, Bool, true, false, ◌||◌, List, [], ◌∷◌, ◌++◌, map, length, refl, sym, subst, ap, ◌∙◌, inl, inr, arith}
+use Rattle.std.proofs.Common.{◌≡◌, ◌≢◌, ℕ, zero, suc, ◌+◌, ◌<◌, ◌⊎◌, Bool, true, false, ◌||◌, List, [], ◌∷◌, ◌++◌, map, length, get_or, refl, sym, subst, ap, ◌∙◌, inl, inr, arith}
 use Rattle.std.specs.Prelude.{slice_get, slice_set, sum_by, Option, Some, None}
 use Rattle.std.specs.List.{list_any}
 use Rattle.std.proofs.lemmas.Option.{slice_get_within, same_Some}
@@ -30,6 +30,11 @@ pub has_from_place : {X : Type 0} (xs : List X) (i : ℕ) (x : X) → slice_get 
 has_from_place [] i x e = cc
 has_from_place (y ∷ xs) zero x e = subst (λ z. Has (z ∷ xs) x) (sym (same_Some y x e)) first
 has_from_place (y ∷ xs) (suc i) x e = later (has_from_place xs i x e)
+
+pub has_get_or : {X : Type 0} (xs : List X) (i : ℕ) (d : X) → i < length xs → Has xs (get_or xs i d)
+has_get_or [] i d b = absurd (omega arith)
+has_get_or (x ∷ xs) zero d b = first
+has_get_or (x ∷ xs) (suc i) d b = later (has_get_or xs i d (omega arith))
 
 -- ---- an append
 

@@ -14,6 +14,8 @@ use std::marker::Model;
 
 mod instances;
 mod nodes;
+mod operators;
+mod ports;
 
 /// A circuit under construction. It is lawful after each call, and a refused call leaves it as it was.
 #[derive(Drop)]

@@ -1,6 +1,6 @@
-ghost use Rattle.std.specs.Prelude.{◌≡◌, ◌≤◌, ℤ, pos, Some, None, MatchResult};
+ghost use Rattle.std.specs.Prelude.{◌≡◌, ◌<◌, ◌≤◌, ◌^◌, ℤ, pos, nat_le, Some, None, MatchResult};
 ghost use Rattle.hc_bits.specs.BitVector.{IsWidth};
-ghost use Rattle.hc_signal.specs.Rules.{width_rule, two_rule, two_width, drive_rule};
+ghost use Rattle.hc_signal.specs.Rules.{width_rule, two_rule, two_width, select_rule, drive_rule};
 
 use crate::signal::Op2;
 use hc_fault::FaultKind;
@@ -34,6 +34,26 @@ pub fn width_of_two(op: Op2, a: u32, b: u32) -> Result<u32, FaultKind>
         _ if a != b => Err(FaultKind::WidthMismatch),
         Op2::Eq | Op2::Lt => Ok(1),
         Op2::Add | Op2::Sub | Op2::And | Op2::Or | Op2::Xor => Ok(a),
+    }
+}
+
+/// Whether a selector of this width has so many numbers.
+pub fn fits_selector(count: usize, width: u32) -> bool
+    ensures { result ≡ nat_le count (2 ^ width) }
+{
+    width >= 64 || count as u64 <= 1 << width
+}
+
+/// The range as places of bits. F16 unless `0 <= lo <= hi` and `hi` is below the width.
+pub fn range_of_select(width: u32, hi: i64, lo: i64) -> Result<(u32, u32), FaultKind>
+    ensures { MatchResult result
+        (λ r. (hi ≡ pos r.0) × (lo ≡ pos r.1) × (r.1 ≤ r.0) × (r.0 < width) × (select_rule width hi lo ≡ None))
+        (λ kind. select_rule width hi lo ≡ Some kind) }
+{
+    if 0 <= lo && lo <= hi && hi < i64::from(width) {
+        Ok((hi as u32, lo as u32))
+    } else {
+        Err(FaultKind::SelectRange)
     }
 }
 

@@ -15,8 +15,8 @@ use Rattle.hc_bits.specs.BitVector.{IsWidth}
 use Rattle.hc_signal.specs.Graph.{Graph}
 use Rattle.hc_signal.specs.Lawful.{IsLawful, IsLawfulNode, NodeAt}
 use Rattle.hc_signal.specs.Weight.{graph_weight, node_weight, memory_weight, instance_weight, operands}
-use Rattle.hc_signal.specs.Builds.{with_row, unlabelled, is_inner, HasRoom}
-use Rattle.hc_signal.specs.Kept.{IsKept, is_output, HasOutputsFrom}
+use Rattle.hc_signal.specs.Builds.{with_row, unlabelled, is_inner, HasRoom, is_output}
+use Rattle.hc_signal.specs.Kept.{IsKept, HasOutputsFrom}
 use Rattle.std.proofs.lemmas.Bool.{ne_eqb, cases_lt}
 use Rattle.hc_signal.proofs.Places.{has_pushed, has_place, place_left, place_last, place_cases, none_passes}
 use Rattle.hc_signal.proofs.Grows.{Extends, lawful_node, lawful_memory, lawful_instance, have_widths}

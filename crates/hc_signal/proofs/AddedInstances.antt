@@ -18,8 +18,8 @@ use Rattle.hc_bits.specs.BitVector.{IsWidth}
 use Rattle.hc_signal.specs.Graph.{Graph}
 use Rattle.hc_signal.specs.Lawful.{IsLawful, IsLawfulNode, NodeAt, ArePorts, HaveWidthsOf, IsLawfulInstance}
 use Rattle.hc_signal.specs.Weight.{graph_weight, node_weight, memory_weight, instance_weight}
-use Rattle.hc_signal.specs.Builds.{with_row, unlabelled, output_rows, HasRoomForInstance}
-use Rattle.hc_signal.specs.Kept.{IsKept, is_output, HasOutputsFrom}
+use Rattle.hc_signal.specs.Builds.{with_row, unlabelled, output_rows, HasRoomForInstance, is_output}
+use Rattle.hc_signal.specs.Kept.{IsKept, HasOutputsFrom}
 use Rattle.hc_signal.proofs.Places.{has_pushed, place_left, place_last, place_cases, place_right}
 use Rattle.hc_signal.proofs.Grows.{Extends, lawful_node, lawful_memory, lawful_instance, have_widths}
 use Rattle.hc_signal.proofs.Added.{RowAt, row_left, lawful_with_row, no_output_past, outputs_left}

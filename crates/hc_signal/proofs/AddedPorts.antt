@@ -17,8 +17,8 @@ use Rattle.hc_signal.specs.declared.signal.Node.TheVariants.{Input, Wire, InstOu
 use Rattle.hc_bits.specs.BitVector.{IsWidth}
 use Rattle.hc_signal.specs.Graph.{Graph}
 use Rattle.hc_signal.specs.Lawful.{IsLawful, IsLawfulNode, NodeAt, HaveWidths, HasWidth, HaveWidthsOf}
-use Rattle.hc_signal.specs.Builds.{with_row, unlabelled, port, HasRoom}
-use Rattle.hc_signal.specs.Kept.{IsKept, is_output}
+use Rattle.hc_signal.specs.Builds.{with_row, unlabelled, port, HasRoom, is_output}
+use Rattle.hc_signal.specs.Kept.{IsKept}
 use Rattle.hc_signal.proofs.Places.{has_pushed, has_from_place, place_left, place_last, place_cases}
 use Rattle.hc_signal.proofs.Grows.{Extends, lawful_node, lawful_memory, lawful_instance, have_widths}
 use Rattle.hc_signal.proofs.Added.{RowAt, row_left, one_place, weight_with_row, marks_push, no_output_past, outputs_left}

@@ -12,8 +12,8 @@ use Rattle.hc_bits.specs.BitVector.{IsWidth}
 use Rattle.hc_signal.specs.Graph.{Graph}
 use Rattle.hc_signal.specs.Lawful.{IsLawful, IsLawfulNode, NodeAt}
 use Rattle.hc_signal.specs.Weight.{graph_weight, node_weight}
-use Rattle.hc_signal.specs.Builds.{change_at, is_inner}
-use Rattle.hc_signal.specs.Kept.{IsKept, is_output}
+use Rattle.hc_signal.specs.Builds.{change_at, is_inner, is_output}
+use Rattle.hc_signal.specs.Kept.{IsKept}
 use Rattle.hc_signal.proofs.Places.{changed_there, same_elsewhere, length-change_at, sum_by-change_at, set_changes}
 use Rattle.hc_signal.proofs.Grows.{Extends, lawful_node, lawful_memory, lawful_instance, have_widths}
 

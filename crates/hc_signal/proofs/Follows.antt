@@ -27,7 +27,7 @@ pub test_holds : (kind : FaultKind) (b : Bool) → rule kind b ≡ None → b �
 test_holds kind true e = refl
 test_holds kind false e = cc
 
-some_at : {X : Type 0} (xs : List X) (n : ℕ) → n < length xs → (x : X) × (slice_get xs n ≡ Some x)
+pub some_at : {X : Type 0} (xs : List X) (n : ℕ) → n < length xs → (x : X) × (slice_get xs n ≡ Some x)
 some_at [] n b = absurd (omega arith)
 some_at (x ∷ xs) zero b = (x, refl)
 some_at (x ∷ xs) (suc n) b = some_at xs n (omega arith)

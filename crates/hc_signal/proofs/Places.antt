@@ -4,6 +4,7 @@ use Rattle.std.specs.Prelude.{slice_get, slice_set, sum_by, Option, Some, None}
 use Rattle.std.specs.List.{list_any}
 use Rattle.std.proofs.lemmas.Option.{slice_get_within, same_Some}
 use Rattle.std.proofs.lemmas.List.Sums.{sum_by-cons}
+use Rattle.std.proofs.lemmas.Bool.{or_right}
 use Rattle.hc_signal.specs.Member.{Has, first, later}
 use Rattle.hc_signal.specs.Builds.{change_at}
 
@@ -103,3 +104,8 @@ sum_by-change_at w f (suc n) (y ∷ xs) x e =
 pub none_passes : {X : Type 0} (p : X → Bool) (xs : List X) → ((x : X) → Has xs x → p x ≡ false) → list_any p xs ≡ false
 none_passes p [] h = refl
 none_passes p (x ∷ xs) h = rw (h x first) (none_passes p xs (λ y k. h y (later k)))
+
+pub some_passes : {X : Type 0} (p : X → Bool) (xs : List X) (x : X) → Has xs x → p x ≡ true → list_any p xs ≡ true
+some_passes p (y ∷ xs) x first e = rw e refl
+some_passes p (y ∷ xs) x (later h) e = or_right (p y) (list_any p xs) (some_passes p xs x h e)
+some_passes p [] x h e = elim h [ ]

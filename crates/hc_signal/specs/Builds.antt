@@ -11,6 +11,10 @@ use Rattle.hc_signal.specs.declared.signal.Ports.{Ports}
 use Rattle.hc_signal.specs.declared.signal.NodeId.{NodeId}
 use Rattle.hc_signal.specs.declared.signal.InstId.{InstId}
 use Rattle.hc_signal.specs.declared.signal.Instance.{Instance}
+use Rattle.hc_signal.specs.declared.signal.MemId.{MemId}
+use Rattle.hc_signal.specs.declared.signal.Memory.{Memory}
+use Rattle.hc_signal.specs.declared.signal.WritePort.{WritePort}
+use Rattle.hc_bits.specs.BitVector.{BitVector}
 use Rattle.hc_signal.specs.declared.signal.NodeRow.{NodeRow}
 use Rattle.hc_signal.specs.declared.signal.Node.{Node}
 use Rattle.hc_signal.specs.declared.signal.Node.TheVariants.{Input, Wire, Const, Two, Not, Mux, Cat, Select, Reg, Read, InstOut, Op}
@@ -135,3 +139,103 @@ driven_from from row = record row { node = Wire (Some from) }
 
 abbrev pub with_driver : Graph → NodeId → NodeId → Graph
 with_driver g wire from = record g { nodes = change_at (driven_from from) wire.0 g.nodes }
+
+-- ---- memories
+
+abbrev pub IsMemory : Graph → MemId → Type 0
+IsMemory g id = id.0 < length g.memories
+
+abbrev pub memory_width : Option Memory → ℕ
+memory_width None = 0
+memory_width (Some m) = m.width
+
+abbrev pub memory_width_at : Graph → MemId → ℕ
+memory_width_at g id = memory_width (slice_get g.memories id.0)
+
+-- one memory more, at the end
+abbrev pub AddsMemory : Graph → ℕ → ℕ → Graph → MemId → Type 0
+AddsMemory old size width new id =
+    (new ≡ record old { memories = old.memories ++ record { size = size; width = width; writes = []; label = None } ∷ [] }) × (id.0 ≡ length old.memories)
+
+-- one write port more, after the others
+abbrev pub written : WritePort → Memory → Memory
+written w m = record m { writes = m.writes ++ w ∷ [] }
+
+abbrev pub with_write : Graph → MemId → WritePort → Graph
+with_write g id w = record g { memories = change_at (written w) id.0 g.memories }
+
+abbrev pub HasRoomForMemory : Graph → Type 0
+HasRoomForMemory g = (length g.memories + 1 < 2 ^ 32) × (graph_weight g + 1 < 2 ^ 64)
+
+abbrev pub HasRoomForWrite : Graph → Type 0
+HasRoomForWrite g = graph_weight g + 4 < 2 ^ 64
+
+-- ---- registers
+
+abbrev pub MayBeNode : Graph → Option NodeId → Type 0
+MayBeNode g None = Unit {0}
+MayBeNode g (Some id) = IsNode g id
+
+abbrev pub clear_of : Option (NodeId × BitVector) → Option NodeId
+clear_of None = None
+clear_of (Some c) = Some c.0
+
+-- ---- labels
+
+abbrev pub is_input : Node → Bool
+is_input (Input port) = true
+is_input other = false
+
+abbrev pub is_input_row : Option NodeRow → Bool
+is_input_row None = false
+is_input_row (Some row) = is_input row.node
+
+-- the node is the wire of an output
+abbrev pub is_output : Graph → ℕ → Bool
+is_output g n = list_any (λ (id : NodeId). id.0 == n) g.outputs
+
+-- it is the node of an input or an output
+abbrev pub is_port_node : Graph → NodeId → Bool
+is_port_node g id = is_input_row (slice_get g.nodes id.0) || is_output g id.0
+
+abbrev pub IsInstance : Graph → InstId → Type 0
+IsInstance g id = id.0 < length g.instances
+
+abbrev pub is_labelled_row : Option NodeRow → Bool
+is_labelled_row None = false
+is_labelled_row (Some row) = is_some row.label
+
+abbrev pub has_node_label : Graph → NodeId → Bool
+has_node_label g id = is_labelled_row (slice_get g.nodes id.0)
+
+abbrev pub is_labelled_memory : Option Memory → Bool
+is_labelled_memory None = false
+is_labelled_memory (Some m) = is_some m.label
+
+abbrev pub has_memory_label : Graph → MemId → Bool
+has_memory_label g id = is_labelled_memory (slice_get g.memories id.0)
+
+abbrev pub is_labelled_instance : Option Instance → Bool
+is_labelled_instance None = false
+is_labelled_instance (Some it) = is_some it.label
+
+abbrev pub has_instance_label : Graph → InstId → Bool
+has_instance_label g id = is_labelled_instance (slice_get g.instances id.0)
+
+abbrev pub labelled_row : Name → NodeRow → NodeRow
+labelled_row label row = record row { label = Some label }
+
+abbrev pub labelled_memory : Name → Memory → Memory
+labelled_memory label m = record m { label = Some label }
+
+abbrev pub labelled_instance : Name → Instance → Instance
+labelled_instance label it = record it { label = Some label }
+
+abbrev pub with_node_label : Graph → NodeId → Name → Graph
+with_node_label g id label = record g { nodes = change_at (labelled_row label) id.0 g.nodes }
+
+abbrev pub with_memory_label : Graph → MemId → Name → Graph
+with_memory_label g id label = record g { memories = change_at (labelled_memory label) id.0 g.memories }
+
+abbrev pub with_instance_label : Graph → InstId → Name → Graph
+with_instance_label g id label = record g { instances = change_at (labelled_instance label) id.0 g.instances }

@@ -1,16 +1,11 @@
 -- What a builder keeps beside its graph.
-use Rattle.std.specs.Prelude.{◌≡◌, ℕ, ◌+◌, ◌<◌, ◌≤◌, Bool, ◌==◌, List, length, slice_get, Some}
-use Rattle.std.specs.List.{list_any}
-use Rattle.hc_signal.specs.declared.signal.NodeId.{NodeId}
+use Rattle.std.specs.Prelude.{◌≡◌, ℕ, ◌+◌, ◌<◌, ◌≤◌, Bool, List, length, slice_get, Some}
 use Rattle.hc_signal.specs.declared.signal.Instance.{Instance}
 use Rattle.hc_signal.specs.declared.signal.Node.TheVariants.{InstOut}
 use Rattle.hc_signal.specs.Graph.{Graph}
 use Rattle.hc_signal.specs.Weight.{graph_weight}
+use Rattle.hc_signal.specs.Builds.{is_output}
 use Rattle.hc_signal.specs.Lawful.{IsLawful, NodeAt}
-
--- the node is the wire of an output
-abbrev pub is_output : Graph → ℕ → Bool
-is_output g n = list_any (λ (id : NodeId). id.0 == n) g.outputs
 
 -- its outputs have nodes from this one on
 abbrev pub HasOutputsFrom : Graph → ℕ → Instance → ℕ → Type 0

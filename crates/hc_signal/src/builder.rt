@@ -13,9 +13,11 @@ use std::alloc::Global;
 use std::marker::Model;
 
 mod instances;
+mod labels;
 mod nodes;
 mod operators;
 mod ports;
+mod state;
 
 /// A circuit under construction. It is lawful after each call, and a refused call leaves it as it was.
 #[derive(Drop)]

@@ -1,6 +1,6 @@
 ghost use Rattle.std.specs.Prelude.{◌≡◌, ◌<◌, ◌≤◌, ◌^◌, ℤ, pos, nat_le, Some, None, MatchResult};
 ghost use Rattle.hc_bits.specs.BitVector.{IsWidth};
-ghost use Rattle.hc_signal.specs.Rules.{width_rule, two_rule, two_width, select_rule, drive_rule};
+ghost use Rattle.hc_signal.specs.Rules.{width_rule, two_rule, two_width, select_rule, memory_rule, write_rule, label_rule, drive_rule};
 
 use crate::signal::Op2;
 use hc_fault::FaultKind;
@@ -37,6 +37,23 @@ pub fn width_of_two(op: Op2, a: u32, b: u32) -> Result<u32, FaultKind>
     }
 }
 
+/// The size and the width of a memory. F12 where the width is not 1 to 128, else F19 where the size is not 1 to 65,536.
+pub fn size_and_width(size: i64, width: i64) -> Result<(u32, u32), FaultKind>
+    ensures { MatchResult result
+        (λ m. (size ≡ pos m.0) × (width ≡ pos m.1) × (1 ≤ m.0) × (m.0 ≤ 65536) × IsWidth m.1 × (memory_rule size width ≡ None))
+        (λ kind. memory_rule size width ≡ Some kind) }
+{
+    let width = match as_width(width) {
+        Ok(width) => width,
+        Err(kind) => return Err(kind),
+    };
+    if (1..=65_536).contains(&size) {
+        Ok((size as u32, width))
+    } else {
+        Err(FaultKind::MemorySize)
+    }
+}
+
 /// Whether a selector of this width has so many numbers.
 pub fn fits_selector(count: usize, width: u32) -> bool
     ensures { result ≡ nat_le count (2 ^ width) }
@@ -65,6 +82,28 @@ pub fn drive_fault(wire: u32, from: u32, is_driven: bool) -> Option<FaultKind>
         Some(FaultKind::WidthMismatch)
     } else if is_driven {
         Some(FaultKind::DrivenTwice)
+    } else {
+        None
+    }
+}
+
+/// F15 where the enable of a write is not one bit wide or its value has not the width of the memory.
+pub fn write_fault(enable: u32, value: u32, memory: u32) -> Option<FaultKind>
+    ensures { result ≡ write_rule enable value memory }
+{
+    if enable != 1 || value != memory {
+        Some(FaultKind::WidthMismatch)
+    } else {
+        None
+    }
+}
+
+/// F14 where there is a label, or it is put on the node of a port.
+pub fn label_fault(has_label: bool, is_port: bool) -> Option<FaultKind>
+    ensures { result ≡ label_rule has_label is_port }
+{
+    if has_label || is_port {
+        Some(FaultKind::RepeatedName)
     } else {
         None
     }

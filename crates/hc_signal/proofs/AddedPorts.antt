@@ -17,7 +17,7 @@ use Rattle.hc_signal.specs.declared.signal.Node.TheVariants.{Input, Wire, InstOu
 use Rattle.hc_bits.specs.BitVector.{IsWidth}
 use Rattle.hc_signal.specs.Graph.{Graph}
 use Rattle.hc_signal.specs.Lawful.{IsLawful, IsLawfulNode, NodeAt, HaveWidths, HasWidth, HaveWidthsOf}
-use Rattle.hc_signal.specs.Builds.{with_row, unlabelled, port, HasRoom, is_output}
+use Rattle.hc_signal.specs.Builds.{with_row, unlabelled, port, HasRoomForNode, is_output}
 use Rattle.hc_signal.specs.Kept.{IsKept}
 use Rattle.hc_signal.proofs.Places.{has_pushed, has_from_place, place_left, place_last, place_cases}
 use Rattle.hc_signal.proofs.Grows.{Extends, lawful_node, lawful_memory, lawful_instance, have_widths}
@@ -86,7 +86,7 @@ module _ (g : Graph) (name : Name) (w : ℕ) (l : IsLawful g) (width : IsWidth w
     few = (let n : _ = length_push g.nodes in_row in omega arith, l.few.1, l.few.2);
   }
 
-kept_with_input : (g : Graph) (name : Name) (w : ℕ) (weight : ℕ) (marks : List Bool) (firsts : List ℕ) → IsKept g weight marks firsts → HasRoom g 0 → IsWidth w
+kept_with_input : (g : Graph) (name : Name) (w : ℕ) (weight : ℕ) (marks : List Bool) (firsts : List ℕ) → IsKept g weight marks firsts → HasRoomForNode g 0 → IsWidth w
     → IsKept (with_row (more_inputs g name w) (unlabelled w (Input (length g.ports.inputs)))) (weight + 1) (marks ++ false ∷ []) firsts
 kept_with_input g name w weight marks firsts kept room width =
     let l : IsLawful g = kept.lawful in
@@ -104,7 +104,7 @@ kept_with_input g name w weight marks firsts kept room width =
 
 -- the same, over lists that are known by equations
 pub kept_input : (g old : Graph) (name : Name) (w at : ℕ) (ins ins' : List Port) (rows rows' : List NodeRow) (weight : ℕ) (marks marks' marks'' : List Bool) (firsts : List ℕ)
-    → IsKept g weight marks firsts → g ≡ old → HasRoom old 0 → IsWidth w → at ≡ length g.ports.inputs
+    → IsKept g weight marks firsts → g ≡ old → HasRoomForNode old 0 → IsWidth w → at ≡ length g.ports.inputs
     → ins' ≡ ins ++ port name w ∷ [] → ins ≡ g.ports.inputs → rows' ≡ rows ++ unlabelled w (Input at) ∷ [] → rows ≡ g.nodes → marks'' ≡ marks' ++ false ∷ [] → marks' ≡ marks
     → IsKept (record g { ports = record { inputs = ins'; outputs = g.ports.outputs }; nodes = rows' }) (weight + 1) marks'' firsts
 kept_input g old name w at ins ins' rows rows' weight marks marks' marks'' firsts kept same room width n a b c d e f =
@@ -116,7 +116,7 @@ kept_input g old name w at ins ins' rows rows' weight marks marks' marks'' first
     subst (λ xs. IsKept (record g { ports = record { inputs = xs; outputs = g.ports.outputs }; nodes = rows' }) (weight + 1) marks'' firsts) (sym is_ins)
     (subst (λ xs. IsKept (record (more_inputs g name w) { nodes = xs }) (weight + 1) marks'' firsts) (sym is_rows)
     (subst (λ xs. IsKept (with_row (more_inputs g name w) (row (length g.ports.inputs))) (weight + 1) xs firsts) (sym is_marks)
-    (kept_with_input g name w weight marks firsts kept (subst (λ h. HasRoom h 0) (sym same) room) width)))
+    (kept_with_input g name w weight marks firsts kept (subst (λ h. HasRoomForNode h 0) (sym same) room) width)))
 
 -- ---- an output port, and its wire
 
@@ -189,7 +189,7 @@ module _ (g : Graph) (name : Name) (w : ℕ) (l : IsLawful g) (width : IsWidth w
     few = (let n : _ = length_push g.nodes out_row in omega arith, l.few.1, l.few.2);
   }
 
-kept_with_output : (g : Graph) (name : Name) (w : ℕ) (weight : ℕ) (marks : List Bool) (firsts : List ℕ) → IsKept g weight marks firsts → HasRoom g 1 → IsWidth w
+kept_with_output : (g : Graph) (name : Name) (w : ℕ) (weight : ℕ) (marks : List Bool) (firsts : List ℕ) → IsKept g weight marks firsts → HasRoomForNode g 1 → IsWidth w
     → IsKept (with_row (more_outputs g name w (record { 0 = length g.nodes })) (unlabelled w (Wire None))) (weight + 2) (marks ++ true ∷ []) firsts
 kept_with_output g name w weight marks firsts kept room width =
     let l : IsLawful g = kept.lawful in
@@ -214,7 +214,7 @@ kept_with_output g name w weight marks firsts kept room width =
     }
 
 pub kept_output : (g old : Graph) (name : Name) (w : ℕ) (id : NodeId) (outs outs' : List Port) (ids ids' : List NodeId) (rows rows' : List NodeRow) (weight : ℕ) (marks marks' marks'' : List Bool) (firsts : List ℕ)
-    → IsKept g weight marks firsts → g ≡ old → HasRoom old 1 → IsWidth w → id.0 ≡ length g.nodes
+    → IsKept g weight marks firsts → g ≡ old → HasRoomForNode old 1 → IsWidth w → id.0 ≡ length g.nodes
     → outs' ≡ outs ++ port name w ∷ [] → outs ≡ g.ports.outputs → ids' ≡ ids ++ id ∷ [] → ids ≡ g.outputs → rows' ≡ rows ++ unlabelled w (Wire None) ∷ [] → rows ≡ g.nodes → marks'' ≡ marks' ++ true ∷ [] → marks' ≡ marks
     → IsKept (record g { ports = record { inputs = g.ports.inputs; outputs = outs' }; outputs = ids'; nodes = rows' }) (weight + 2) marks'' firsts
 kept_output g old name w id outs outs' ids ids' rows rows' weight marks marks' marks'' firsts kept same room width n a b c d e f h i =
@@ -230,4 +230,4 @@ kept_output g old name w id outs outs' ids ids' rows rows' weight marks marks' m
     (subst (λ xs. IsKept (record (more_outputs g name w at) { outputs = xs; nodes = rows' }) (weight + 2) marks'' firsts) (sym is_ids)
     (subst (λ xs. IsKept (record (more_outputs g name w at) { nodes = xs }) (weight + 2) marks'' firsts) (sym is_rows)
     (subst (λ xs. IsKept (with_row (more_outputs g name w at) row) (weight + 2) xs firsts) (sym is_marks)
-    (kept_with_output g name w weight marks firsts kept (subst (λ h. HasRoom h 1) (sym same) room) width))))
+    (kept_with_output g name w weight marks firsts kept (subst (λ h. HasRoomForNode h 1) (sym same) room) width))))

@@ -1,5 +1,5 @@
 -- What the calls of the builder do with the graph so far.
-use Rattle.std.specs.Prelude.{◌≡◌, ℕ, zero, suc, ◌+◌, ◌*◌, ◌^◌, ◌<◌, Bool, true, false, ◌||◌, ◌==◌, is_some, List, [], ◌∷◌, ◌++◌, map, length, slice_get, Option, Some, None, option_map, Result, Ok, Err}
+use Rattle.std.specs.Prelude.{◌≡◌, ℕ, zero, suc, ◌+◌, ◌*◌, ◌^◌, ◌<◌, Bool, true, false, IsTrue, ◌||◌, ◌==◌, is_some, List, [], ◌∷◌, ◌++◌, map, length, slice_get, Option, Some, None, option_map, Result, Ok, Err}
 use Rattle.std.specs.List.{list_any}
 use Rattle.hc_fault.specs.declared.fault.FaultKind.{FaultKind}
 use Rattle.hc_fault.specs.declared.name.Name.{Name}
@@ -36,8 +36,8 @@ abbrev pub AreNodes : Graph → List NodeId → Type 0
 AreNodes g ids = (id : NodeId) → Has ids id → IsNode g id
 
 -- room for one node more, of so many operands: places fit 32 bits, and the weight 64
-abbrev pub HasRoom : Graph → ℕ → Type 0
-HasRoom g operands = (length g.nodes + 1 < 2 ^ 32) × (graph_weight g + 1 + operands < 2 ^ 64)
+abbrev pub HasRoomForNode : Graph → ℕ → Type 0
+HasRoomForNode g operands = (length g.nodes + 1 < 2 ^ 32) × (graph_weight g + 1 + operands < 2 ^ 64)
 
 -- ---- widths
 
@@ -125,7 +125,7 @@ is_wire (Wire driver) = true
 is_wire other = false
 
 abbrev pub IsWire : Graph → NodeId → Type 0
-IsWire g id = (row : NodeRow) × (slice_get g.nodes id.0 ≡ Some row) × (is_wire row.node ≡ true)
+IsWire g id = (row : NodeRow) × (slice_get g.nodes id.0 ≡ Some row) × IsTrue (is_wire row.node)
 
 abbrev pub is_driven : Option NodeRow → Bool
 is_driven None = false

@@ -85,7 +85,8 @@ impl Builder {
     /// The weight of all rows so far: for each node 1 and its operands, for each memory 1 and for each of its write
     /// ports 4, for each instance 1 and for each of its connections 2.
     pub fn weight(&self) -> u64
-        ensures { result ≡ graph_weight self.now }
+        ensures value { result ≡ graph_weight self.now }
+        ensures rows { length self.now.nodes + length self.now.memories + length self.now.instances ≤ result }
     {
         self.weight
     }

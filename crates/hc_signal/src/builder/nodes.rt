@@ -1,4 +1,4 @@
-ghost use Rattle.std.specs.Prelude.{◌≡◌, ◌≢◌, ◌+◌, ◌<◌, ◌≤◌, ◌^◌, true, nat_abs, None, Some, IfOk, OnOk, OnErr, IfErr};
+ghost use Rattle.std.specs.Prelude.{◌≡◌, ◌≢◌, ◌+◌, ◌<◌, ◌≤◌, ◌^◌, IsTrue, nat_abs, None, Some, IfOk, OnOk, OnErr, IfErr};
 ghost use Rattle.hc_bits.specs.BitVector.{IsWidth};
 ghost use Rattle.hc_signal.specs.declared.signal.Node.TheVariants as node;
 ghost use Rattle.hc_signal.specs.declared.stop.BuildStop.TheVariants as stop;
@@ -6,7 +6,7 @@ ghost use Rattle.hc_signal.specs.Graph.{Graph};
 ghost use Rattle.hc_signal.specs.Weight.{operands};
 ghost use Rattle.hc_signal.specs.Lawful.{IsLawfulNode};
 ghost use Rattle.hc_signal.specs.Rules.{width_rule, drive_rule};
-ghost use Rattle.hc_signal.specs.Builds.{IsNode, IsWire, HasRoom, Obeys, AddsNode, is_inner, is_driven, is_driven_at, is_wire, driven_from, width_at, with_driver};
+ghost use Rattle.hc_signal.specs.Builds.{IsNode, IsWire, HasRoomForNode, Obeys, AddsNode, is_inner, is_driven, is_driven_at, is_wire, driven_from, width_at, with_driver};
 
 use super::Builder;
 use crate::rules::{as_width, drive_fault};
@@ -18,7 +18,7 @@ use hc_fault::NoMemory;
 impl Builder {
     /// Adds a wire of this width in bits, which has no driver yet. F12 where the width is not 1 to 128.
     pub fn wire(&mut self, width: i64) -> Result<NodeId, BuildStop>
-        requires room { HasRoom self.old 1 }
+        requires room { HasRoomForNode self.old 1 }
         ensures made { IfOk result (AddsNode self.old (nat_abs width) (node.Wire None) self.new) }
         ensures rule { Obeys result (width_rule width) }
         ensures same { OnErr result (self.new ≡ self.old) }
@@ -49,7 +49,7 @@ impl Builder {
 
     /// Adds a constant.
     pub fn constant(&mut self, value: Bits) -> Result<NodeId, BuildStop>
-        requires room { HasRoom self.old 0 }
+        requires room { HasRoomForNode self.old 0 }
         ensures made { IfOk result (AddsNode self.old value.width (node.Const value) self.new) }
         ensures rule { Obeys result None }
         ensures same { OnErr result (self.new ≡ self.old) }
@@ -59,10 +59,10 @@ impl Builder {
 
     /// Adds a node that stands for no port, without a label.
     pub(super) fn add(&mut self, width: u32, node: Node) -> Result<NodeId, NoMemory>
-        requires room { HasRoom self.old (operands node) }
+        requires room { HasRoomForNode self.old (operands node) }
         requires width { IsWidth width }
         requires lawful { IsLawfulNode self.old width node }
-        requires inner { is_inner node ≡ true }
+        requires inner { IsTrue (is_inner node) }
         ensures made { IfOk result (AddsNode self.old width node self.new) }
         ensures same { OnErr result (self.new ≡ self.old) }
     {
@@ -93,7 +93,7 @@ fn is_driven(row: &NodeRow) -> bool
 
 /// Drives a wire.
 fn connect(row: &mut NodeRow, from: NodeId)
-    requires { is_wire row.old.node ≡ true }
+    requires { IsTrue (is_wire row.old.node) }
     ensures { row.new ≡ driven_from from row.old }
 {
     if let Node::Wire { driver } = &mut row.node {

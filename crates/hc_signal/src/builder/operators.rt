@@ -4,7 +4,7 @@ ghost use Rattle.hc_bits.specs.BitVector.{IsWidth};
 ghost use Rattle.hc_bits.specs.Catalogue.{arity};
 ghost use Rattle.hc_signal.specs.declared.signal.Node.TheVariants as node;
 ghost use Rattle.hc_signal.specs.Rules.{two_rule, two_width, mux_rule, first_width, cat_rule, select_rule, select_width, op_rule, op_width};
-ghost use Rattle.hc_signal.specs.Builds.{IsNode, AreNodes, HasRoom, Obeys, AddsNode, width_at, widths_at};
+ghost use Rattle.hc_signal.specs.Builds.{IsNode, AreNodes, HasRoomForNode, Obeys, AddsNode, width_at, widths_at};
 
 use super::Builder;
 use crate::rules::{fits_selector, range_of_select, width_of_two};
@@ -17,7 +17,7 @@ impl Builder {
     /// Adds an operator over two nodes. F12 where a product is wider than 128 bits; F15 where the operands of another
     /// operator differ in width.
     pub fn two(&mut self, op: Op2, a: NodeId, b: NodeId) -> Result<NodeId, BuildStop>
-        requires room { HasRoom self.old 2 }
+        requires room { HasRoomForNode self.old 2 }
         requires a_node { IsNode self.old a }
         requires b_node { IsNode self.old b }
         ensures made { IfOk result (AddsNode self.old (two_width op (width_at self.old a) (width_at self.old b)) (node.Two op a b) self.new) }
@@ -33,7 +33,7 @@ impl Builder {
 
     /// Adds the complement of a node.
     pub fn not(&mut self, a: NodeId) -> Result<NodeId, BuildStop>
-        requires room { HasRoom self.old 1 }
+        requires room { HasRoomForNode self.old 1 }
         requires node { IsNode self.old a }
         ensures made { IfOk result (AddsNode self.old (width_at self.old a) (node.Not a) self.new) }
         ensures rule { Obeys result None }
@@ -46,7 +46,7 @@ impl Builder {
     /// Adds a choice among two or more cases by the number of the selector, the last one past the end. F15 where the
     /// cases differ in width, else F17 where they are more than the selector has numbers.
     pub fn mux(&mut self, sel: NodeId, cases: &[NodeId]) -> Result<NodeId, BuildStop>
-        requires room { HasRoom self.old (1 + length cases.now) }
+        requires room { HasRoomForNode self.old (1 + length cases.now) }
         requires sel_node { IsNode self.old sel }
         requires case_nodes { AreNodes self.old cases.now }
         requires two { 2 ≤ length cases.now }
@@ -64,7 +64,7 @@ impl Builder {
 
     /// Adds two or more nodes side by side, the most significant first. F12 where they are wider than 128 bits.
     pub fn cat(&mut self, parts: &[NodeId]) -> Result<NodeId, BuildStop>
-        requires room { HasRoom self.old (length parts.now) }
+        requires room { HasRoomForNode self.old (length parts.now) }
         requires part_nodes { AreNodes self.old parts.now }
         requires two { 2 ≤ length parts.now }
         ensures made { IfOk result (AddsNode self.old (sum (widths_at self.old parts.now)) (node.Cat parts.now) self.new) }
@@ -81,7 +81,7 @@ impl Builder {
 
     /// Adds the bits from `hi` down to `lo` of a node. F16 unless `0 <= lo <= hi` and `hi` is below its width.
     pub fn select(&mut self, a: NodeId, hi: i64, lo: i64) -> Result<NodeId, BuildStop>
-        requires room { HasRoom self.old 1 }
+        requires room { HasRoomForNode self.old 1 }
         requires node { IsNode self.old a }
         ensures made { IfOk result (AddsNode self.old (select_width (nat_abs hi) (nat_abs lo)) (node.Select a (nat_abs hi) (nat_abs lo)) self.new) }
         ensures rule { Obeys result (select_rule (width_at self.old a) hi lo) }
@@ -96,7 +96,7 @@ impl Builder {
 
     /// Adds an operation of the catalogue over as many nodes as its kind takes. F15 where they differ in width.
     pub fn op(&mut self, kind: OpKind, args: &[NodeId]) -> Result<NodeId, BuildStop>
-        requires room { HasRoom self.old (length args.now) }
+        requires room { HasRoomForNode self.old (length args.now) }
         requires arg_nodes { AreNodes self.old args.now }
         requires arity { length args.now ≡ arity kind }
         ensures made { IfOk result (AddsNode self.old (op_width kind (widths_at self.old args.now)) (node.Op kind args.now) self.new) }

@@ -1,6 +1,6 @@
 ghost use Rattle.std.specs.Prelude.{◌≡◌, nat_abs, IfOk, OnErr};
 ghost use Rattle.hc_signal.specs.Rules.{width_rule};
-ghost use Rattle.hc_signal.specs.Builds.{HasRoom, Obeys, AddsInput, AddsOutput};
+ghost use Rattle.hc_signal.specs.Builds.{HasRoomForNode, Obeys, AddsInput, AddsOutput};
 
 use super::Builder;
 use crate::rules::as_width;
@@ -11,7 +11,7 @@ use hc_fault::Name;
 impl Builder {
     /// Adds an input port of this width in bits, and its node. F12 where the width is not 1 to 128.
     pub fn input(&mut self, name: &Name, width: i64) -> Result<NodeId, BuildStop>
-        requires room { HasRoom self.old 0 }
+        requires room { HasRoomForNode self.old 0 }
         ensures made { IfOk result (AddsInput self.old name.now (nat_abs width) self.new) }
         ensures rule { Obeys result (width_rule width) }
         ensures same { OnErr result (self.new ≡ self.old) }
@@ -40,7 +40,7 @@ impl Builder {
     /// Adds an output port of this width in bits, and its wire, which has no driver yet. F12 where the width is not
     /// 1 to 128.
     pub fn output(&mut self, name: &Name, width: i64) -> Result<NodeId, BuildStop>
-        requires room { HasRoom self.old 1 }
+        requires room { HasRoomForNode self.old 1 }
         ensures made { IfOk result (AddsOutput self.old name.now (nat_abs width) self.new) }
         ensures rule { Obeys result (width_rule width) }
         ensures same { OnErr result (self.new ≡ self.old) }

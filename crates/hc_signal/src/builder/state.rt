@@ -4,7 +4,7 @@ ghost use Rattle.hc_bits.specs.BitVector.{IsBitVector, IsWidth};
 ghost use Rattle.hc_signal.specs.declared.signal.Node.TheVariants as node;
 ghost use Rattle.hc_signal.specs.Weight.{operands};
 ghost use Rattle.hc_signal.specs.Rules.{is_bit, reg_rule, memory_rule, write_rule};
-ghost use Rattle.hc_signal.specs.Builds.{IsNode, IsMemory, MayBeNode, HasRoom, HasRoomForMemory, HasRoomForWrite, Obeys, AddsNode, AddsMemory, width_at, memory_width_at, clear_of, written, with_write};
+ghost use Rattle.hc_signal.specs.Builds.{IsNode, IsMemory, MayBeNode, HasRoomForNode, HasRoomForMemory, HasRoomForWrite, Obeys, AddsNode, AddsMemory, width_at, memory_width_at, clear_of, written, with_write};
 
 use super::Builder;
 use crate::rules::{size_and_width, write_fault};
@@ -24,7 +24,7 @@ impl Builder {
         clear: Option<(NodeId, Bits)>,
         init: Bits,
     ) -> Result<NodeId, BuildStop>
-        requires room { HasRoom self.old (operands (node.Reg next enable clear init)) }
+        requires room { HasRoomForNode self.old (operands (node.Reg next enable clear init)) }
         requires next_node { IsNode self.old next }
         requires enable_node { MayBeNode self.old enable }
         requires clear_node { MayBeNode self.old (clear_of clear) }
@@ -75,7 +75,7 @@ impl Builder {
 
     /// Adds a read of a memory: its word at the address, or 0 where the address is past its end.
     pub fn read(&mut self, mem: MemId, addr: NodeId) -> Result<NodeId, BuildStop>
-        requires room { HasRoom self.old 1 }
+        requires room { HasRoomForNode self.old 1 }
         requires mem { IsMemory self.old mem }
         requires addr { IsNode self.old addr }
         ensures made { IfOk result (AddsNode self.old (memory_width_at self.old mem) (node.Read mem addr) self.new) }

@@ -94,12 +94,3 @@ driven_row g old wire from row v w d same l is_w node read ve we holds =
     let width : row.width ≡ width_at g from
     = sym (ap row_width there) ∙ (ap (λ (h : Graph). width_at h wire) same ∙ (sym ve ∙ (equal_widths v w d holds ∙ (we ∙ ap (λ (h : Graph). width_at h from) (sym same))))) in
     (there, wired, drive_replaces g wire from row l there wired node' width)
-
--- the rule as it was tested
-pub drive_tested : (g old : Graph) (wire from : NodeId) (row : NodeRow) (v w : ℕ) (d : Bool) (r : Option FaultKind) → g ≡ old → IsWire old wire → row ≡ get_or g.nodes wire.0 row
-    → v ≡ width_at old wire → w ≡ width_at old from → d ≡ is_driven (Some row) → r ≡ drive_rule v w d → drive_rule (width_at old wire) (width_at old from) (is_driven_at old wire) ≡ r
-drive_tested g old wire from row v w d r same is_w read ve we de e =
-    let is_w' : IsWire g wire = subst (λ h. IsWire h wire) (sym same) is_w in
-    let there : slice_get g.nodes wire.0 ≡ Some row = row_read g wire.0 row (slice_get_within g.nodes wire.0 is_w'.0 is_w'.1) read in
-    let driven : is_driven_at old wire ≡ d = ap (λ (h : Graph). is_driven_at h wire) (sym same) ∙ (ap is_driven there ∙ sym de) in
-    ap (λ n. drive_rule n (width_at old from) (is_driven_at old wire)) (sym ve) ∙ (ap (λ n. drive_rule v n (is_driven_at old wire)) (sym we) ∙ (ap (drive_rule v w) driven ∙ sym e))

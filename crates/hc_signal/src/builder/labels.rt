@@ -3,7 +3,7 @@ ghost use Rattle.hc_signal.specs.Rules.{label_rule};
 ghost use Rattle.hc_signal.specs.Builds.{IsNode, IsMemory, IsInstance, Obeys, has_node_label, has_memory_label, has_instance_label, is_port_node, is_input, with_node_label, with_memory_label, with_instance_label};
 
 use super::Builder;
-use crate::rules::label_fault;
+use crate::rules::check_label;
 use crate::signal::{InstId, MemId, Node, NodeId};
 use crate::stop::BuildStop;
 use hc_fault::Name;
@@ -16,9 +16,7 @@ impl Builder {
         ensures rule { Obeys result (label_rule (has_node_label self.old id) (is_port_node self.old id)) }
         ensures same { OnErr result (self.new ≡ self.old) }
     {
-        if let Some(kind) = label_fault(self.has_node_label(id), self.is_port_node(id)) {
-            return Err(BuildStop::Fault(kind));
-        }
+        check_label(self.has_node_label(id), self.is_port_node(id))?;
         let label = Name::new(self.alloc, label.bytes())?;
         let row = &mut self.nodes[id.0 as usize];
         put_label(&mut row.label, label);
@@ -32,9 +30,7 @@ impl Builder {
         ensures rule { Obeys result (label_rule (has_memory_label self.old id) false) }
         ensures same { OnErr result (self.new ≡ self.old) }
     {
-        if let Some(kind) = label_fault(self.has_memory_label(id), false) {
-            return Err(BuildStop::Fault(kind));
-        }
+        check_label(self.has_memory_label(id), false)?;
         let label = Name::new(self.alloc, label.bytes())?;
         let memory = &mut self.memories[id.0 as usize];
         put_label(&mut memory.label, label);
@@ -48,9 +44,7 @@ impl Builder {
         ensures rule { Obeys result (label_rule (has_instance_label self.old id) false) }
         ensures same { OnErr result (self.new ≡ self.old) }
     {
-        if let Some(kind) = label_fault(self.has_instance_label(id), false) {
-            return Err(BuildStop::Fault(kind));
-        }
+        check_label(self.has_instance_label(id), false)?;
         let label = Name::new(self.alloc, label.bytes())?;
         let instance = &mut self.instances[id.0 as usize];
         put_label(&mut instance.label, label);

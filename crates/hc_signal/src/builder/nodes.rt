@@ -6,10 +6,10 @@ ghost use Rattle.hc_signal.specs.Graph.{Graph};
 ghost use Rattle.hc_signal.specs.Weight.{operands};
 ghost use Rattle.hc_signal.specs.Lawful.{IsLawfulNode};
 ghost use Rattle.hc_signal.specs.Rules.{width_rule, drive_rule};
-ghost use Rattle.hc_signal.specs.Builds.{IsNode, IsWire, HasRoomForNode, Obeys, AddsNode, is_inner, is_driven, is_driven_at, is_wire, driven_from, width_at, with_driver};
+ghost use Rattle.hc_signal.specs.Builds.{IsNode, IsWire, HasRoomForNode, Obeys, AddsNode, is_inner, driver_of, is_driven_at, is_wire, driven_from, width_at, with_driver};
 
 use super::Builder;
-use crate::rules::{as_width, drive_fault};
+use crate::rules::{as_width, check_drive};
 use crate::signal::{Node, NodeId, NodeRow};
 use crate::stop::BuildStop;
 use hc_bits::Bits;
@@ -23,10 +23,7 @@ impl Builder {
         ensures rule { Obeys result (width_rule width) }
         ensures same { OnErr result (self.new ≡ self.old) }
     {
-        let width = match as_width(width) {
-            Ok(width) => width,
-            Err(kind) => return Err(BuildStop::Fault(kind)),
-        };
+        let width = as_width(width)?;
         Ok(self.add(width, Node::Wire { driver: None })?)
     }
 
@@ -39,10 +36,7 @@ impl Builder {
         ensures same { OnErr result (self.new ≡ self.old) }
         ensures no_memory { IfErr result (λ e. e ≢ stop.NoMemory) }
     {
-        let is_driven = is_driven(&self.nodes[wire.0 as usize]);
-        if let Some(kind) = drive_fault(self.width(wire), self.width(from), is_driven) {
-            return Err(BuildStop::Fault(kind));
-        }
+        check_drive(self.width(wire), self.width(from), self.is_driven(wire))?;
         connect(&mut self.nodes[wire.0 as usize], from);
         Ok(())
     }
@@ -55,6 +49,14 @@ impl Builder {
         ensures same { OnErr result (self.new ≡ self.old) }
     {
         Ok(self.add(value.width(), Node::Const { value })?)
+    }
+
+    /// Whether a node is a wire with a driver.
+    fn is_driven(&self, id: NodeId) -> bool
+        requires { IsNode self.now id }
+        ensures { result ≡ is_driven_at self.now id }
+    {
+        driver_of(&self.nodes[id.0 as usize].node).is_some()
     }
 
     /// Adds a node that stands for no port, without a label.
@@ -81,13 +83,13 @@ impl Builder {
     }
 }
 
-/// Whether the row is a wire with a driver.
-fn is_driven(row: &NodeRow) -> bool
-    ensures { result ≡ is_driven (Some row.now) }
+/// The driver of a wire that has one.
+fn driver_of(node: &Node) -> Option<NodeId>
+    ensures { result ≡ driver_of node.now }
 {
-    match &row.node {
-        Node::Wire { driver } => driver.is_some(),
-        _ => false,
+    match node {
+        Node::Wire { driver } => *driver,
+        _ => None,
     }
 }
 

@@ -1,9 +1,9 @@
-ghost use Rattle.std.specs.Prelude.{◌≡◌, ◌+◌, ◌<◌, ◌≤◌, ◌==◌, None, Some, IfOk, OnErr, MatchResult, length, sum, nat_abs};
+ghost use Rattle.std.specs.Prelude.{◌≡◌, ◌+◌, ◌<◌, ◌≤◌, ◌==◌, None, Some, IfOk, OnErr, length, sum, nat_abs};
 ghost use Rattle.std.specs.List.{list_all};
 ghost use Rattle.hc_bits.specs.BitVector.{IsWidth};
 ghost use Rattle.hc_bits.specs.Catalogue.{arity};
 ghost use Rattle.hc_signal.specs.declared.signal.Node.TheVariants as node;
-ghost use Rattle.hc_signal.specs.Rules.{two_rule, two_width, mux_rule, first_width, cat_rule, select_rule, select_width, op_rule, op_width};
+ghost use Rattle.hc_signal.specs.Rules.{IsVerdict, two_rule, two_width, mux_rule, first_width, cat_rule, select_rule, select_width, op_rule, op_width};
 ghost use Rattle.hc_signal.specs.Builds.{IsNode, AreNodes, HasRoomForNode, Obeys, AddsNode, width_at, widths_at};
 
 use super::Builder;
@@ -24,10 +24,7 @@ impl Builder {
         ensures rule { Obeys result (two_rule op (width_at self.old a) (width_at self.old b)) }
         ensures same { OnErr result (self.new ≡ self.old) }
     {
-        let width = match width_of_two(op, self.width(a), self.width(b)) {
-            Ok(width) => width,
-            Err(kind) => return Err(BuildStop::Fault(kind)),
-        };
+        let width = width_of_two(op, self.width(a), self.width(b))?;
         Ok(self.add(width, Node::Two { op, a, b })?)
     }
 
@@ -54,10 +51,7 @@ impl Builder {
         ensures rule { Obeys result (mux_rule (width_at self.old sel) (widths_at self.old cases.now)) }
         ensures same { OnErr result (self.new ≡ self.old) }
     {
-        let width = match self.mux_width(sel, cases) {
-            Ok(width) => width,
-            Err(kind) => return Err(BuildStop::Fault(kind)),
-        };
+        let width = self.mux_width(sel, cases)?;
         let cases = Ids::from_slice(self.alloc, cases)?;
         Ok(self.add(width, Node::Mux { sel, cases })?)
     }
@@ -71,10 +65,7 @@ impl Builder {
         ensures rule { Obeys result (cat_rule (widths_at self.old parts.now)) }
         ensures same { OnErr result (self.new ≡ self.old) }
     {
-        let width = match self.cat_width(parts) {
-            Ok(width) => width,
-            Err(kind) => return Err(BuildStop::Fault(kind)),
-        };
+        let width = self.cat_width(parts)?;
         let parts = Ids::from_slice(self.alloc, parts)?;
         Ok(self.add(width, Node::Cat { parts })?)
     }
@@ -87,10 +78,7 @@ impl Builder {
         ensures rule { Obeys result (select_rule (width_at self.old a) hi lo) }
         ensures same { OnErr result (self.new ≡ self.old) }
     {
-        let (hi, lo) = match range_of_select(self.width(a), hi, lo) {
-            Ok(range) => range,
-            Err(kind) => return Err(BuildStop::Fault(kind)),
-        };
+        let (hi, lo) = range_of_select(self.width(a), hi, lo)?;
         Ok(self.add(hi - lo + 1, Node::Select { a, hi, lo })?)
     }
 
@@ -116,9 +104,8 @@ impl Builder {
         requires sel_node { IsNode self.now sel }
         requires case_nodes { AreNodes self.now cases.now }
         requires two { 2 ≤ length cases.now }
-        ensures { MatchResult result
-            (λ w. (w ≡ first_width (widths_at self.now cases.now)) × IsWidth w × (mux_rule (width_at self.now sel) (widths_at self.now cases.now) ≡ None))
-            (λ kind. mux_rule (width_at self.now sel) (widths_at self.now cases.now) ≡ Some kind) }
+        ensures value { IfOk result (λ w. (w ≡ first_width (widths_at self.now cases.now)) × IsWidth w) }
+        ensures rule { IsVerdict result (mux_rule (width_at self.now sel) (widths_at self.now cases.now)) }
     {
         let width = self.width(cases[0]);
         if !self.have_width(cases, width) {
@@ -134,9 +121,8 @@ impl Builder {
     fn cat_width(&self, parts: &[NodeId]) -> Result<u32, FaultKind>
         requires part_nodes { AreNodes self.now parts.now }
         requires some { 1 ≤ length parts.now }
-        ensures { MatchResult result
-            (λ w. (w ≡ sum (widths_at self.now parts.now)) × IsWidth w × (cat_rule (widths_at self.now parts.now) ≡ None))
-            (λ kind. cat_rule (widths_at self.now parts.now) ≡ Some kind) }
+        ensures value { IfOk result (λ w. (w ≡ sum (widths_at self.now parts.now)) × IsWidth w) }
+        ensures rule { IsVerdict result (cat_rule (widths_at self.now parts.now)) }
     {
         let mut width = 0;
         for part in parts {

@@ -16,10 +16,7 @@ impl Builder {
         ensures rule { Obeys result (width_rule width) }
         ensures same { OnErr result (self.new ≡ self.old) }
     {
-        let width = match as_width(width) {
-            Ok(width) => width,
-            Err(kind) => return Err(BuildStop::Fault(kind)),
-        };
+        let width = as_width(width)?;
         let name = Name::new(self.alloc, name.bytes())?;
         self.inputs.reserve(1)?;
         self.nodes.reserve(1)?;
@@ -45,10 +42,7 @@ impl Builder {
         ensures rule { Obeys result (width_rule width) }
         ensures same { OnErr result (self.new ≡ self.old) }
     {
-        let width = match as_width(width) {
-            Ok(width) => width,
-            Err(kind) => return Err(BuildStop::Fault(kind)),
-        };
+        let width = as_width(width)?;
         let name = Name::new(self.alloc, name.bytes())?;
         self.outputs.reserve(1)?;
         self.output_wires.reserve(1)?;

@@ -7,7 +7,7 @@ ghost use Rattle.hc_signal.specs.Rules.{is_bit, reg_rule, memory_rule, write_rul
 ghost use Rattle.hc_signal.specs.Builds.{IsNode, IsMemory, MayBeNode, HasRoomForNode, HasRoomForMemory, HasRoomForWrite, Obeys, AddsNode, AddsMemory, width_at, memory_width_at, clear_of, written, with_write};
 
 use super::Builder;
-use crate::rules::{size_and_width, write_fault};
+use crate::rules::{check_write, size_and_width};
 use crate::signal::{MemId, Memory, Node, NodeId, WritePort};
 use crate::stop::BuildStop;
 use hc_bits::Bits;
@@ -57,10 +57,7 @@ impl Builder {
         ensures rule { Obeys result (memory_rule size width) }
         ensures same { OnErr result (self.new ≡ self.old) }
     {
-        let (size, width) = match size_and_width(size, width) {
-            Ok(pair) => pair,
-            Err(kind) => return Err(BuildStop::Fault(kind)),
-        };
+        let (size, width) = size_and_width(size, width)?;
         self.memories.reserve(1)?;
         let id = MemId(self.memories.len() as u32);
         self.memories.push_reserved(Memory {
@@ -104,13 +101,11 @@ impl Builder {
         ensures rule { Obeys result (write_rule (width_at self.old enable) (width_at self.old value) (memory_width_at self.old mem)) }
         ensures same { OnErr result (self.new ≡ self.old) }
     {
-        if let Some(kind) = write_fault(
+        check_write(
             self.width(enable),
             self.width(value),
             self.memory_width(mem),
-        ) {
-            return Err(BuildStop::Fault(kind));
-        }
+        )?;
         let memory = &mut self.memories[mem.0 as usize];
         add_write(
             memory,

@@ -9,7 +9,7 @@ pub invariant_of-self : goal.invariant_of-self
 invariant_of-self c =
     let label : _ = row_labelled c.index_mut-row.result.now c.put_label.new.place c.args.label.now (c.put_label.ensures ∙ ap Some (c.in_ok-label.ensures ∙ c.bytes.ensures)) in
     kept_node_label _ c.args.self.now c.args.id c.args.label.now c.index_mut-row.result.now _ _ _ _ _ _ _ c.self.invariant c.self.view_is c.requires c.index_mut-row.ensures.value
-    c.is_port_node.ensures (sym c.label_fault.ensures ∙ c.in_default.is) label refl
+    c.is_port_node.ensures c.in_ok-check_label.ensures label refl
 
 pub returns-clause-made : goal.returns-clause-made
 returns-clause-made c =

@@ -6,5 +6,5 @@ use Rattle.hc_signal.proofs.builder.Builder.mux.Goals as goal
 
 pub add-requires-clause-lawful : goal.add-requires-clause-lawful
 add-requires-clause-lawful c =
-    subst (λ cases. IsLawfulNode c.args.self.now c.in-Ok.width (Mux c.args.sel cases)) (sym c.in_ok-cases.ensures)
-    (mux_follows c.args.self.now c.args.sel c.args.cases.now c.in-Ok.width c.requires.sel_node c.requires.case_nodes c.requires.two c.in-Ok.ensures.0 c.in-Ok.ensures.2)
+    subst (λ cases. IsLawfulNode c.args.self.now c.in_ok-width.width (Mux c.args.sel cases)) (sym c.in_ok-cases.ensures)
+    (mux_follows c.args.self.now c.args.sel c.args.cases.now c.in_ok-width.width c.requires.sel_node c.requires.case_nodes c.requires.two c.in_ok-width.ensures.value.0 c.in_ok-width.ensures.rule)

@@ -7,7 +7,7 @@ pub invariant_of-self-2 : goal.invariant_of-self-2
 invariant_of-self-2 c =
     kept_write _ c.args.self.now c.args.mem (record { enable = c.args.enable; addr = c.args.addr; value = c.args.value }) c.index_mut-memory.result.now c.add_write.new.memory _ _ _ _ _ _ _
     c.self.invariant c.self.view_is c.requires.mem c.requires.enable c.requires.addr c.requires.value c.index_mut-memory.ensures.value
-    c.width.ensures.value c.width-2.ensures.value c.memory_width.ensures.value (sym c.write_fault.ensures ∙ c.in_default.is) c.in_ok-add_write.ensures.made refl
+    c.width.ensures.value c.width-2.ensures.value c.memory_width.ensures.value c.in_ok-check_write.ensures c.in_ok-add_write.ensures.made refl
 
 pub returns-clause-made : goal.returns-clause-made
 returns-clause-made c =

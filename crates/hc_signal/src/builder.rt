@@ -42,9 +42,21 @@ impl Model for Builder {
 
     ghost Value = { Graph };
 
-    ghost view = { λ b. record { ports = record { inputs = b.inputs.items; outputs = b.outputs.items }; outputs = b.output_wires.items; nodes = b.nodes.items; memories = b.memories.items; instances = b.instances.items } };
+    ghost view = { λ b. record {
+      ports = record { inputs = b.inputs.items; outputs = b.outputs.items };
+      outputs = b.output_wires.items;
+      nodes = b.nodes.items;
+      memories = b.memories.items;
+      instances = b.instances.items;
+    } };
 
-    ghost invariant = { λ b. IsKept (record { ports = record { inputs = b.inputs.items; outputs = b.outputs.items }; outputs = b.output_wires.items; nodes = b.nodes.items; memories = b.memories.items; instances = b.instances.items }) b.weight b.is_output.items b.first_outputs.items };
+    ghost invariant = { λ b. IsKept (record {
+      ports = record { inputs = b.inputs.items; outputs = b.outputs.items };
+      outputs = b.output_wires.items;
+      nodes = b.nodes.items;
+      memories = b.memories.items;
+      instances = b.instances.items;
+    }) b.weight b.is_output.items b.first_outputs.items };
 }
 
 impl Builder {

@@ -32,7 +32,8 @@ impl Builder {
         requires wire { IsWire self.old wire }
         requires from { IsNode self.old from }
         ensures made { OnOk result (self.new ≡ with_driver self.old wire from) }
-        ensures rule { Obeys result (drive_rule (width_at self.old wire) (width_at self.old from) (is_driven_at self.old wire)) }
+        ensures rule { let g = self.old in
+            Obeys result (drive_rule (width_at g wire) (width_at g from) (is_driven_at g wire)) }
         ensures same { OnErr result (self.new ≡ self.old) }
         ensures no_memory { IfErr result (λ e. e ≢ stop.NoMemory) }
     {

@@ -20,7 +20,8 @@ impl Builder {
         requires room { HasRoomForNode self.old 2 }
         requires a_node { IsNode self.old a }
         requires b_node { IsNode self.old b }
-        ensures made { IfOk result (AddsNode self.old (two_width op (width_at self.old a) (width_at self.old b)) (node.Two op a b) self.new) }
+        ensures made { let width = two_width op (width_at self.old a) (width_at self.old b) in
+            IfOk result (AddsNode self.old width (node.Two op a b) self.new) }
         ensures rule { Obeys result (two_rule op (width_at self.old a) (width_at self.old b)) }
         ensures same { OnErr result (self.new ≡ self.old) }
     {
@@ -47,7 +48,8 @@ impl Builder {
         requires sel_node { IsNode self.old sel }
         requires case_nodes { AreNodes self.old cases.now }
         requires two { 2 ≤ length cases.now }
-        ensures made { IfOk result (AddsNode self.old (first_width (widths_at self.old cases.now)) (node.Mux sel cases.now) self.new) }
+        ensures made { let width = first_width (widths_at self.old cases.now) in
+            IfOk result (AddsNode self.old width (node.Mux sel cases.now) self.new) }
         ensures rule { Obeys result (mux_rule (width_at self.old sel) (widths_at self.old cases.now)) }
         ensures same { OnErr result (self.new ≡ self.old) }
     {
@@ -61,7 +63,8 @@ impl Builder {
         requires room { HasRoomForNode self.old (length parts.now) }
         requires part_nodes { AreNodes self.old parts.now }
         requires two { 2 ≤ length parts.now }
-        ensures made { IfOk result (AddsNode self.old (sum (widths_at self.old parts.now)) (node.Cat parts.now) self.new) }
+        ensures made { let width = sum (widths_at self.old parts.now) in
+            IfOk result (AddsNode self.old width (node.Cat parts.now) self.new) }
         ensures rule { Obeys result (cat_rule (widths_at self.old parts.now)) }
         ensures same { OnErr result (self.new ≡ self.old) }
     {
@@ -74,7 +77,9 @@ impl Builder {
     pub fn select(&mut self, a: NodeId, hi: i64, lo: i64) -> Result<NodeId, BuildStop>
         requires room { HasRoomForNode self.old 1 }
         requires node { IsNode self.old a }
-        ensures made { IfOk result (AddsNode self.old (select_width (nat_abs hi) (nat_abs lo)) (node.Select a (nat_abs hi) (nat_abs lo)) self.new) }
+        ensures made { let high = nat_abs hi in
+            let low = nat_abs lo in
+            IfOk result (AddsNode self.old (select_width high low) (node.Select a high low) self.new) }
         ensures rule { Obeys result (select_rule (width_at self.old a) hi lo) }
         ensures same { OnErr result (self.new ≡ self.old) }
     {
@@ -87,7 +92,8 @@ impl Builder {
         requires room { HasRoomForNode self.old (length args.now) }
         requires arg_nodes { AreNodes self.old args.now }
         requires arity { length args.now ≡ arity kind }
-        ensures made { IfOk result (AddsNode self.old (op_width kind (widths_at self.old args.now)) (node.Op kind args.now) self.new) }
+        ensures made { let width = op_width kind (widths_at self.old args.now) in
+            IfOk result (AddsNode self.old width (node.Op kind args.now) self.new) }
         ensures rule { Obeys result (op_rule (widths_at self.old args.now)) }
         ensures same { OnErr result (self.new ≡ self.old) }
     {

@@ -2,6 +2,7 @@ ghost use Rattle.std.specs.Prelude.{◌≡◌, ◌+◌, ◌<◌, ◌≤◌, ◌^
 ghost use Rattle.std.specs.Option.{ForSome};
 ghost use Rattle.hc_bits.specs.BitVector.{IsBitVector, IsWidth};
 ghost use Rattle.hc_signal.specs.declared.signal.Node.TheVariants as node;
+ghost use Rattle.hc_signal.specs.declared.signal.WritePort.{WritePort};
 ghost use Rattle.hc_signal.specs.Weight.{operands};
 ghost use Rattle.hc_signal.specs.Rules.{is_bit, reg_rule, memory_rule, write_rule};
 ghost use Rattle.hc_signal.specs.Builds.{IsNode, IsMemory, MayBeNode, HasRoomForNode, HasRoomForMemory, HasRoomForWrite, Obeys, AddsNode, AddsMemory, width_at, memory_width_at, clear_of, written, with_write};
@@ -30,8 +31,10 @@ impl Builder {
         requires clear_node { MayBeNode self.old (clear_of clear) }
         requires clear_width { ForSome clear (λ c. c.1.width ≡ width_at self.old next) }
         requires init_width { init.width ≡ width_at self.old next }
-        ensures made { IfOk result (AddsNode self.old (width_at self.old next) (node.Reg next enable clear init) self.new) }
-        ensures rule { Obeys result (reg_rule (option_map (width_at self.old) enable) (option_map (width_at self.old) (clear_of clear))) }
+        ensures made { let width = width_at self.old next in
+            IfOk result (AddsNode self.old width (node.Reg next enable clear init) self.new) }
+        ensures rule { let width_of = option_map (width_at self.old) in
+            Obeys result (reg_rule (width_of enable) (width_of (clear_of clear))) }
         ensures same { OnErr result (self.new ≡ self.old) }
     {
         if !self.is_bit(enable) || !self.is_bit(clear_node(clear)) {
@@ -75,7 +78,8 @@ impl Builder {
         requires room { HasRoomForNode self.old 1 }
         requires mem { IsMemory self.old mem }
         requires addr { IsNode self.old addr }
-        ensures made { IfOk result (AddsNode self.old (memory_width_at self.old mem) (node.Read mem addr) self.new) }
+        ensures made { let width = memory_width_at self.old mem in
+            IfOk result (AddsNode self.old width (node.Read mem addr) self.new) }
         ensures rule { Obeys result None }
         ensures same { OnErr result (self.new ≡ self.old) }
     {
@@ -97,8 +101,10 @@ impl Builder {
         requires enable { IsNode self.old enable }
         requires addr { IsNode self.old addr }
         requires value { IsNode self.old value }
-        ensures made { OnOk result (self.new ≡ with_write self.old mem (record { enable = enable; addr = addr; value = value })) }
-        ensures rule { Obeys result (write_rule (width_at self.old enable) (width_at self.old value) (memory_width_at self.old mem)) }
+        ensures made { let port : WritePort = record { enable = enable; addr = addr; value = value } in
+            OnOk result (self.new ≡ with_write self.old mem port) }
+        ensures rule { let g = self.old in
+            Obeys result (write_rule (width_at g enable) (width_at g value) (memory_width_at g mem)) }
         ensures same { OnErr result (self.new ≡ self.old) }
     {
         check_write(

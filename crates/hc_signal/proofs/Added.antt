@@ -1,9 +1,9 @@
 -- A builder with one row more is kept.
 use Rattle.std.proofs.Common.{◌≡◌, ℕ, ◌+◌, ◌<◌, ◌≤◌, ◌⊎◌, Bool, true, false, ◌==◌, List, [], ◌∷◌, ◌++◌, length, refl, sym, subst, ◌∙◌, ap, inl, inr, arith, length-append}
-use Rattle.std.specs.Prelude.{slice_get, Some, None}
+use Rattle.std.specs.Prelude.{slice_get, sum_by, Some, None}
 use Rattle.std.proofs.lemmas.Option.{slice_get_within, same_Some}
 use Rattle.std.proofs.lemmas.List.{length_push}
-use Rattle.std.proofs.lemmas.List.Sums.{sum_by_push}
+use Rattle.std.proofs.lemmas.List.Sums.{sum_by_push, sum_by-cons}
 use Rattle.hc_signal.specs.Member.{Has}
 use Rattle.hc_signal.specs.declared.signal.Port.{Port}
 use Rattle.hc_signal.specs.declared.signal.NodeId.{NodeId}
@@ -15,8 +15,8 @@ use Rattle.hc_bits.specs.BitVector.{IsWidth}
 use Rattle.hc_signal.specs.Graph.{Graph}
 use Rattle.hc_signal.specs.Lawful.{IsLawful, IsLawfulNode, NodeAt}
 use Rattle.hc_signal.specs.Weight.{graph_weight, node_weight, memory_weight, instance_weight, operands}
-use Rattle.hc_signal.specs.Builds.{with_row, unlabelled, is_inner, HasRoom}
-use Rattle.hc_signal.specs.Kept.{IsKept, is_output, HasOutputsFrom}
+use Rattle.hc_signal.specs.Builds.{with_row, unlabelled, is_inner, HasRoomForNode, is_output}
+use Rattle.hc_signal.specs.Kept.{IsKept, HasOutputsFrom}
 use Rattle.std.proofs.lemmas.Bool.{ne_eqb, cases_lt}
 use Rattle.hc_signal.proofs.Places.{has_pushed, has_place, place_left, place_last, place_cases, none_passes}
 use Rattle.hc_signal.proofs.Grows.{Extends, lawful_node, lawful_memory, lawful_instance, have_widths}
@@ -118,7 +118,7 @@ inner_input x k inner e = let no : is_inner x ≡ false = ap is_inner e in cc
 inner_output : (x : Node) (i : InstId) (k : ℕ) → is_inner x ≡ true → x ≡ InstOut i k → ⊥
 inner_output x i k inner e = let no : is_inner x ≡ false = ap is_inner e in cc
 
-kept_with_row : (g : Graph) (w : ℕ) (x : Node) (weight : ℕ) (marks : List Bool) (firsts : List ℕ) → IsKept g weight marks firsts → HasRoom g (operands x) → IsWidth w → IsLawfulNode g w x → is_inner x ≡ true
+kept_with_row : (g : Graph) (w : ℕ) (x : Node) (weight : ℕ) (marks : List Bool) (firsts : List ℕ) → IsKept g weight marks firsts → HasRoomForNode g (operands x) → IsWidth w → IsLawfulNode g w x → is_inner x ≡ true
     → IsKept (with_row g (unlabelled w x)) (weight + (1 + operands x)) (marks ++ false ∷ []) firsts
 kept_with_row g w x weight marks firsts kept room width node inner =
     let l : IsLawful g = kept.lawful in
@@ -128,17 +128,37 @@ kept_with_row g w x weight marks firsts kept room width node inner =
       total = (let e : _ = weight_with_row g (unlabelled w x) in let t : _ = kept.total in omega arith);
       marked = (let m : _ = length_push marks false in let n : _ = kept.marked in omega arith);
       wires = λ n b. marks_push (is_output g) (is_output g) (length g.nodes) marks false kept.marked kept.wires (λ k c. refl) (no_output_past g l (length g.nodes) (omega arith)) n (omega arith);
+      counted = kept.counted;
       first_nodes = λ i it e. (let was : _ = kept.first_nodes i it e in (was.0, was.1, outputs_left g.nodes _ i was.0 (length it.ports.outputs) was.2));
       few_ports = (let f : _ = kept.few_ports in omega arith);
     }
 
 -- the same, over lists that are known by equations
 pub kept_node : (g old : Graph) (w : ℕ) (x : Node) (rows : List NodeRow) (weight total : ℕ) (marks marked : List Bool) (firsts : List ℕ)
-    → IsKept g weight marks firsts → g ≡ old → HasRoom old (operands x) → IsWidth w → IsLawfulNode old w x → is_inner x ≡ true
+    → IsKept g weight marks firsts → g ≡ old → HasRoomForNode old (operands x) → IsWidth w → IsLawfulNode old w x → is_inner x ≡ true
     → rows ≡ g.nodes ++ unlabelled w x ∷ [] → total ≡ weight + (1 + operands x) → marked ≡ marks ++ false ∷ []
     → IsKept (record g { nodes = rows }) total marked firsts
 kept_node g old w x rows weight total marks marked firsts kept same room width node inner e d f =
     subst (λ rows'. IsKept (record g { nodes = rows' }) total marked firsts) (sym e)
     (subst (λ total'. IsKept (with_row g (unlabelled w x)) total' marked firsts) (sym d)
     (subst (λ marked'. IsKept (with_row g (unlabelled w x)) (weight + (1 + operands x)) marked' firsts) (sym f)
-    (kept_with_row g w x weight marks firsts kept (subst (λ h. HasRoom h (operands x)) (sym same) room) width (subst (λ h. IsLawfulNode h w x) (sym same) node) inner)))
+    (kept_with_row g w x weight marks firsts kept (subst (λ h. HasRoomForNode h (operands x)) (sym same) room) width (subst (λ h. IsLawfulNode h w x) (sym same) node) inner)))
+
+-- ---- the weight counts each row
+
+fewer : {X : Type 0} (f : X → ℕ) (xs : List X) → ((x : X) → 1 ≤ f x) → length xs ≤ sum_by f xs
+fewer f [] h = omega arith
+fewer f (x ∷ xs) h = let e : _ = sum_by-cons f x xs in let one : _ = h x in let more : _ = fewer f xs h in omega arith
+
+rows_count : (g : Graph) → length g.nodes + length g.memories + length g.instances ≤ graph_weight g
+rows_count g =
+    let a : _ = fewer node_weight g.nodes (λ row. omega arith) in
+    let b : _ = fewer memory_weight g.memories (λ m. omega arith) in
+    let c : _ = fewer instance_weight g.instances (λ i. omega arith) in
+    omega arith
+
+pub weight_counts : (g old : Graph) (weight : ℕ) (marks : List Bool) (firsts : List ℕ) → IsKept g weight marks firsts → g ≡ old → length old.nodes + length old.memories + length old.instances ≤ weight
+weight_counts g old weight marks firsts kept same =
+    let few : _ = rows_count g in
+    let total : weight ≡ graph_weight g = kept.total in
+    subst (λ (h : Graph). length h.nodes + length h.memories + length h.instances ≤ weight) same (omega arith)

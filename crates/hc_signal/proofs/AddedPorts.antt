@@ -17,8 +17,8 @@ use Rattle.hc_signal.specs.declared.signal.Node.TheVariants.{Input, Wire, InstOu
 use Rattle.hc_bits.specs.BitVector.{IsWidth}
 use Rattle.hc_signal.specs.Graph.{Graph}
 use Rattle.hc_signal.specs.Lawful.{IsLawful, IsLawfulNode, NodeAt, HaveWidths, HasWidth, HaveWidthsOf}
-use Rattle.hc_signal.specs.Builds.{with_row, unlabelled, port, HasRoom}
-use Rattle.hc_signal.specs.Kept.{IsKept, is_output}
+use Rattle.hc_signal.specs.Builds.{with_row, unlabelled, port, HasRoomForNode, is_output}
+use Rattle.hc_signal.specs.Kept.{IsKept}
 use Rattle.hc_signal.proofs.Places.{has_pushed, has_from_place, place_left, place_last, place_cases}
 use Rattle.hc_signal.proofs.Grows.{Extends, lawful_node, lawful_memory, lawful_instance, have_widths}
 use Rattle.hc_signal.proofs.Added.{RowAt, row_left, one_place, weight_with_row, marks_push, no_output_past, outputs_left}
@@ -86,7 +86,7 @@ module _ (g : Graph) (name : Name) (w : ℕ) (l : IsLawful g) (width : IsWidth w
     few = (let n : _ = length_push g.nodes in_row in omega arith, l.few.1, l.few.2);
   }
 
-kept_with_input : (g : Graph) (name : Name) (w : ℕ) (weight : ℕ) (marks : List Bool) (firsts : List ℕ) → IsKept g weight marks firsts → HasRoom g 0 → IsWidth w
+kept_with_input : (g : Graph) (name : Name) (w : ℕ) (weight : ℕ) (marks : List Bool) (firsts : List ℕ) → IsKept g weight marks firsts → HasRoomForNode g 0 → IsWidth w
     → IsKept (with_row (more_inputs g name w) (unlabelled w (Input (length g.ports.inputs)))) (weight + 1) (marks ++ false ∷ []) firsts
 kept_with_input g name w weight marks firsts kept room width =
     let l : IsLawful g = kept.lawful in
@@ -97,13 +97,14 @@ kept_with_input g name w weight marks firsts kept room width =
       total = (let e : _ = weight_with_row g new in let t : _ = kept.total in omega arith);
       marked = (let m : _ = length_push marks false in let n : _ = kept.marked in omega arith);
       wires = λ n b. marks_push (is_output g) (is_output g) (length g.nodes) marks false kept.marked kept.wires (λ k c. refl) (no_output_past g l (length g.nodes) (omega arith)) n (omega arith);
+      counted = kept.counted;
       first_nodes = λ i it e. (let was : _ = kept.first_nodes i it e in (was.0, was.1, outputs_left g.nodes _ i was.0 (length it.ports.outputs) was.2));
       few_ports = (let f : _ = kept.few_ports in let p : _ = length_push g.ports.inputs (port name w) in omega arith);
     }
 
 -- the same, over lists that are known by equations
 pub kept_input : (g old : Graph) (name : Name) (w at : ℕ) (ins ins' : List Port) (rows rows' : List NodeRow) (weight : ℕ) (marks marks' marks'' : List Bool) (firsts : List ℕ)
-    → IsKept g weight marks firsts → g ≡ old → HasRoom old 0 → IsWidth w → at ≡ length g.ports.inputs
+    → IsKept g weight marks firsts → g ≡ old → HasRoomForNode old 0 → IsWidth w → at ≡ length g.ports.inputs
     → ins' ≡ ins ++ port name w ∷ [] → ins ≡ g.ports.inputs → rows' ≡ rows ++ unlabelled w (Input at) ∷ [] → rows ≡ g.nodes → marks'' ≡ marks' ++ false ∷ [] → marks' ≡ marks
     → IsKept (record g { ports = record { inputs = ins'; outputs = g.ports.outputs }; nodes = rows' }) (weight + 1) marks'' firsts
 kept_input g old name w at ins ins' rows rows' weight marks marks' marks'' firsts kept same room width n a b c d e f =
@@ -115,7 +116,7 @@ kept_input g old name w at ins ins' rows rows' weight marks marks' marks'' first
     subst (λ xs. IsKept (record g { ports = record { inputs = xs; outputs = g.ports.outputs }; nodes = rows' }) (weight + 1) marks'' firsts) (sym is_ins)
     (subst (λ xs. IsKept (record (more_inputs g name w) { nodes = xs }) (weight + 1) marks'' firsts) (sym is_rows)
     (subst (λ xs. IsKept (with_row (more_inputs g name w) (row (length g.ports.inputs))) (weight + 1) xs firsts) (sym is_marks)
-    (kept_with_input g name w weight marks firsts kept (subst (λ h. HasRoom h 0) (sym same) room) width)))
+    (kept_with_input g name w weight marks firsts kept (subst (λ h. HasRoomForNode h 0) (sym same) room) width)))
 
 -- ---- an output port, and its wire
 
@@ -188,7 +189,7 @@ module _ (g : Graph) (name : Name) (w : ℕ) (l : IsLawful g) (width : IsWidth w
     few = (let n : _ = length_push g.nodes out_row in omega arith, l.few.1, l.few.2);
   }
 
-kept_with_output : (g : Graph) (name : Name) (w : ℕ) (weight : ℕ) (marks : List Bool) (firsts : List ℕ) → IsKept g weight marks firsts → HasRoom g 1 → IsWidth w
+kept_with_output : (g : Graph) (name : Name) (w : ℕ) (weight : ℕ) (marks : List Bool) (firsts : List ℕ) → IsKept g weight marks firsts → HasRoomForNode g 1 → IsWidth w
     → IsKept (with_row (more_outputs g name w (record { 0 = length g.nodes })) (unlabelled w (Wire None))) (weight + 2) (marks ++ true ∷ []) firsts
 kept_with_output g name w weight marks firsts kept room width =
     let l : IsLawful g = kept.lawful in
@@ -207,12 +208,13 @@ kept_with_output g name w weight marks firsts kept room width =
       total = (let e : _ = weight_with_row g new in let t : _ = kept.total in omega arith);
       marked = (let m : _ = length_push marks true in let n : _ = kept.marked in omega arith);
       wires = λ n b. marks_push (is_output g) (λ k. list_any (test k) (g.outputs ++ id ∷ [])) (length g.nodes) marks true kept.marked kept.wires elsewhere here n (omega arith);
+      counted = kept.counted;
       first_nodes = λ i it e. (let was : _ = kept.first_nodes i it e in (was.0, was.1, outputs_left g.nodes _ i was.0 (length it.ports.outputs) was.2));
       few_ports = (let f : _ = kept.few_ports in let p : _ = length_push g.ports.outputs (port name w) in omega arith);
     }
 
 pub kept_output : (g old : Graph) (name : Name) (w : ℕ) (id : NodeId) (outs outs' : List Port) (ids ids' : List NodeId) (rows rows' : List NodeRow) (weight : ℕ) (marks marks' marks'' : List Bool) (firsts : List ℕ)
-    → IsKept g weight marks firsts → g ≡ old → HasRoom old 1 → IsWidth w → id.0 ≡ length g.nodes
+    → IsKept g weight marks firsts → g ≡ old → HasRoomForNode old 1 → IsWidth w → id.0 ≡ length g.nodes
     → outs' ≡ outs ++ port name w ∷ [] → outs ≡ g.ports.outputs → ids' ≡ ids ++ id ∷ [] → ids ≡ g.outputs → rows' ≡ rows ++ unlabelled w (Wire None) ∷ [] → rows ≡ g.nodes → marks'' ≡ marks' ++ true ∷ [] → marks' ≡ marks
     → IsKept (record g { ports = record { inputs = g.ports.inputs; outputs = outs' }; outputs = ids'; nodes = rows' }) (weight + 2) marks'' firsts
 kept_output g old name w id outs outs' ids ids' rows rows' weight marks marks' marks'' firsts kept same room width n a b c d e f h i =
@@ -228,4 +230,4 @@ kept_output g old name w id outs outs' ids ids' rows rows' weight marks marks' m
     (subst (λ xs. IsKept (record (more_outputs g name w at) { outputs = xs; nodes = rows' }) (weight + 2) marks'' firsts) (sym is_ids)
     (subst (λ xs. IsKept (record (more_outputs g name w at) { nodes = xs }) (weight + 2) marks'' firsts) (sym is_rows)
     (subst (λ xs. IsKept (with_row (more_outputs g name w at) row) (weight + 2) xs firsts) (sym is_marks)
-    (kept_with_output g name w weight marks firsts kept (subst (λ h. HasRoom h 1) (sym same) room) width))))
+    (kept_with_output g name w weight marks firsts kept (subst (λ h. HasRoomForNode h 1) (sym same) room) width))))

@@ -12,8 +12,8 @@ use Rattle.hc_bits.specs.BitVector.{IsWidth}
 use Rattle.hc_signal.specs.Graph.{Graph}
 use Rattle.hc_signal.specs.Lawful.{IsLawful, IsLawfulNode, NodeAt}
 use Rattle.hc_signal.specs.Weight.{graph_weight, node_weight}
-use Rattle.hc_signal.specs.Builds.{change_at, is_inner}
-use Rattle.hc_signal.specs.Kept.{IsKept, is_output}
+use Rattle.hc_signal.specs.Builds.{change_at, is_inner, is_output}
+use Rattle.hc_signal.specs.Kept.{IsKept}
 use Rattle.hc_signal.proofs.Places.{changed_there, same_elsewhere, length-change_at, sum_by-change_at, set_changes}
 use Rattle.hc_signal.proofs.Grows.{Extends, lawful_node, lawful_memory, lawful_instance, have_widths}
 
@@ -103,6 +103,7 @@ module _ (g : Graph) (n : ℕ) (f : NodeRow → NodeRow) (old : NodeRow) (r : Re
         total = (let e : _ = sum_by-change_at node_weight f n g.nodes old r.there in let same : _ = r.weight in let t : _ = kept.total in omega arith);
         marked = (let m : _ = kept.marked in omega arith);
         wires = λ m b. kept.wires m (omega arith);
+        counted = kept.counted;
         first_nodes = λ i it e. (let was : _ = kept.first_nodes i it e in (was.0, was.1, λ k b. node_forth _ _ refl (was.2 k b)));
         few_ports = (let p : _ = kept.few_ports in omega arith);
       }

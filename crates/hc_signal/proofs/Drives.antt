@@ -13,12 +13,12 @@ use Rattle.hc_signal.specs.declared.signal.Node.TheVariants.{Input, Wire, Const,
 use Rattle.hc_signal.specs.Graph.{Graph}
 use Rattle.hc_signal.specs.Lawful.{IsLawful, HasWidth}
 use Rattle.hc_signal.specs.Weight.{node_weight, operands}
-use Rattle.hc_signal.specs.Rules.{rule, first_broken, drive_rule}
+use Rattle.hc_signal.specs.Rules.{rule, drive_rule}
 use Rattle.hc_signal.specs.Builds.{IsNode, IsWire, width_at, row_width, is_wire, is_driven, is_driven_at, is_inner, driven_from, change_at}
 use Rattle.hc_signal.specs.Kept.{IsKept}
 use Rattle.hc_signal.proofs.Places.{set_changes}
 use Rattle.hc_signal.proofs.Changed.{Replaces, kept_row}
-use Rattle.hc_signal.proofs.Follows.{test_holds, has_its_width}
+use Rattle.hc_signal.proofs.Follows.{test_holds, first_holds, has_its_width}
 
 -- the row that was read
 pub row_read : (g : Graph) (n : ℕ) (x : NodeRow) → n < length g.nodes → x ≡ get_or g.nodes n x → slice_get g.nodes n ≡ Some x
@@ -61,11 +61,7 @@ wire_weight (Op a b) w = cc
 
 -- the rule of a drive has the widths equal
 pub equal_widths : (v w : ℕ) (d : Bool) → drive_rule v w d ≡ None → v ≡ w
-equal_widths v w d e = eqb-true v w (test_holds fault.WidthMismatch (v == w) (first_holds (rule fault.WidthMismatch (v == w)) _ e))
-  where
-    first_holds : (a b : Option FaultKind) → first_broken a b ≡ None → a ≡ None
-    first_holds None b e = refl
-    first_holds (Some k) b e = e
+equal_widths v w d e = eqb-true v w (test_holds fault.WidthMismatch (v == w) (first_holds (rule fault.WidthMismatch (v == w)) _ e).0)
 
 module _ (g : Graph) (wire from : NodeId) (row : NodeRow) (l : IsLawful g) (there : slice_get g.nodes wire.0 ≡ Some row) (w : is_wire row.node ≡ true) (node : IsNode g from) (same : row.width ≡ width_at g from) where
   abbrev made : NodeRow
@@ -98,12 +94,3 @@ driven_row g old wire from row v w d same l is_w node read ve we holds =
     let width : row.width ≡ width_at g from
     = sym (ap row_width there) ∙ (ap (λ (h : Graph). width_at h wire) same ∙ (sym ve ∙ (equal_widths v w d holds ∙ (we ∙ ap (λ (h : Graph). width_at h from) (sym same))))) in
     (there, wired, drive_replaces g wire from row l there wired node' width)
-
--- the rule as it was tested
-pub drive_tested : (g old : Graph) (wire from : NodeId) (row : NodeRow) (v w : ℕ) (d : Bool) (r : Option FaultKind) → g ≡ old → IsWire old wire → row ≡ get_or g.nodes wire.0 row
-    → v ≡ width_at old wire → w ≡ width_at old from → d ≡ is_driven (Some row) → r ≡ drive_rule v w d → drive_rule (width_at old wire) (width_at old from) (is_driven_at old wire) ≡ r
-drive_tested g old wire from row v w d r same is_w read ve we de e =
-    let is_w' : IsWire g wire = subst (λ h. IsWire h wire) (sym same) is_w in
-    let there : slice_get g.nodes wire.0 ≡ Some row = row_read g wire.0 row (slice_get_within g.nodes wire.0 is_w'.0 is_w'.1) read in
-    let driven : is_driven_at old wire ≡ d = ap (λ (h : Graph). is_driven_at h wire) (sym same) ∙ (ap is_driven there ∙ sym de) in
-    ap (λ n. drive_rule n (width_at old from) (is_driven_at old wire)) (sym ve) ∙ (ap (λ n. drive_rule v n (is_driven_at old wire)) (sym we) ∙ (ap (drive_rule v w) driven ∙ sym e))

@@ -5,3 +5,8 @@ pub mod AddedPorts
 pub mod Follows
 pub mod Changed
 pub mod Drives
+pub mod AddedInstances
+pub mod AddedMemories
+pub mod ChangedMemories
+pub mod ChangedInstances
+pub mod LabelledNodes

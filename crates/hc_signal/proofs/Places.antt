@@ -1,9 +1,10 @@
 -- Places in lists: after an append, and after a change of one element.
-use Rattle.std.proofs.Common.{◌≡◌, ◌≢◌, ℕ, zero, suc, ◌+◌, ◌<◌, ◌⊎◌, Bool, true, false, ◌||◌, List, [], ◌∷◌, ◌++◌, map, length, refl, sym, subst, ap, ◌∙◌, inl, inr, arith}
+use Rattle.std.proofs.Common.{◌≡◌, ◌≢◌, ℕ, zero, suc, ◌+◌, ◌<◌, ◌⊎◌, Bool, true, false, ◌||◌, List, [], ◌∷◌, ◌++◌, map, length, get_or, refl, sym, subst, ap, ◌∙◌, inl, inr, arith}
 use Rattle.std.specs.Prelude.{slice_get, slice_set, sum_by, Option, Some, None}
 use Rattle.std.specs.List.{list_any}
 use Rattle.std.proofs.lemmas.Option.{slice_get_within, same_Some}
 use Rattle.std.proofs.lemmas.List.Sums.{sum_by-cons}
+use Rattle.std.proofs.lemmas.Bool.{or_right}
 use Rattle.hc_signal.specs.Member.{Has, first, later}
 use Rattle.hc_signal.specs.Builds.{change_at}
 
@@ -31,6 +32,11 @@ has_from_place [] i x e = cc
 has_from_place (y ∷ xs) zero x e = subst (λ z. Has (z ∷ xs) x) (sym (same_Some y x e)) first
 has_from_place (y ∷ xs) (suc i) x e = later (has_from_place xs i x e)
 
+pub has_get_or : {X : Type 0} (xs : List X) (i : ℕ) (d : X) → i < length xs → Has xs (get_or xs i d)
+has_get_or [] i d b = absurd (omega arith)
+has_get_or (x ∷ xs) zero d b = first
+has_get_or (x ∷ xs) (suc i) d b = later (has_get_or xs i d (omega arith))
+
 -- ---- an append
 
 pub place_left : {X : Type 0} (xs ys : List X) (i : ℕ) (x : X) → slice_get xs i ≡ Some x → slice_get (xs ++ ys) i ≡ Some x
@@ -41,6 +47,10 @@ place_left (y ∷ xs) ys (suc i) x e = place_left xs ys i x e
 pub place_last : {X : Type 0} (xs : List X) (y : X) → slice_get (xs ++ y ∷ []) (length xs) ≡ Some y
 place_last [] y = refl
 place_last (x ∷ xs) y = place_last xs y
+
+pub place_right : {X : Type 0} (xs ys : List X) (i : ℕ) → slice_get (xs ++ ys) (length xs + i) ≡ slice_get ys i
+place_right [] ys i = ap (slice_get ys) (omega arith)
+place_right (x ∷ xs) ys i = (let e : length (x ∷ xs) + i ≡ suc (length xs + i) = omega arith in ap (slice_get (x ∷ (xs ++ ys))) e) ∙ place_right xs ys i
 
 pub place_cases : {X : Type 0} (xs : List X) (y : X) (i : ℕ) (x : X) → slice_get (xs ++ y ∷ []) i ≡ Some x → (slice_get xs i ≡ Some x) ⊎ ((i ≡ length xs) × (y ≡ x))
 place_cases [] y zero x e = inr (refl, same_Some y x e)
@@ -94,3 +104,8 @@ sum_by-change_at w f (suc n) (y ∷ xs) x e =
 pub none_passes : {X : Type 0} (p : X → Bool) (xs : List X) → ((x : X) → Has xs x → p x ≡ false) → list_any p xs ≡ false
 none_passes p [] h = refl
 none_passes p (x ∷ xs) h = rw (h x first) (none_passes p xs (λ y k. h y (later k)))
+
+pub some_passes : {X : Type 0} (p : X → Bool) (xs : List X) (x : X) → Has xs x → p x ≡ true → list_any p xs ≡ true
+some_passes p (y ∷ xs) x first e = rw e refl
+some_passes p (y ∷ xs) x (later h) e = or_right (p y) (list_any p xs) (some_passes p xs x h e)
+some_passes p [] x h e = elim h [ ]

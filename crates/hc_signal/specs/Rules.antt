@@ -1,5 +1,5 @@
 -- The rules of the primitives, over widths and numbers: the first rule that is broken, and the width of the result.
-use Rattle.std.specs.Prelude.{ℕ, ◌+◌, ◌-◌, ◌^◌, Bool, true, false, not, ◌&&◌, ◌==◌, nat_lt, nat_le, List, [], ◌∷◌, length, sum, Option, Some, None, ℤ, pos, negsuc, nat_abs}
+use Rattle.std.specs.Prelude.{◌≡◌, ℕ, ◌+◌, ◌-◌, ◌^◌, Bool, true, false, not, ◌&&◌, ◌==◌, nat_lt, nat_le, List, [], ◌∷◌, length, sum, Option, Some, None, Result, Ok, Err, ℤ, pos, negsuc, nat_abs}
 use Rattle.std.specs.List.{list_all}
 use Rattle.hc_fault.specs.declared.fault.FaultKind.{FaultKind}
 use Rattle.hc_fault.specs.declared.fault.FaultKind.TheVariants as fault
@@ -17,6 +17,11 @@ rule kind false = Some kind
 abbrev pub first_broken : Option FaultKind → Option FaultKind → Option FaultKind
 first_broken None next = next
 first_broken (Some kind) next = Some kind
+
+-- the answer of a test by a rule
+abbrev pub IsVerdict : {T : Type 0} → Result T FaultKind → Option FaultKind → Type 0
+IsVerdict (Ok answer) broken = broken ≡ None
+IsVerdict (Err kind) broken = broken ≡ Some kind
 
 -- ---- widths
 

@@ -12,7 +12,12 @@ use hc_fault::ItemList;
 use std::alloc::Global;
 use std::marker::Model;
 
+mod instances;
+mod labels;
 mod nodes;
+mod operators;
+mod ports;
+mod state;
 
 /// A circuit under construction. It is lawful after each call, and a refused call leaves it as it was.
 #[derive(Drop)]
@@ -37,9 +42,21 @@ impl Model for Builder {
 
     ghost Value = { Graph };
 
-    ghost view = { λ b. record { ports = record { inputs = b.inputs.items; outputs = b.outputs.items }; outputs = b.output_wires.items; nodes = b.nodes.items; memories = b.memories.items; instances = b.instances.items } };
+    ghost view = { λ b. record {
+      ports = record { inputs = b.inputs.items; outputs = b.outputs.items };
+      outputs = b.output_wires.items;
+      nodes = b.nodes.items;
+      memories = b.memories.items;
+      instances = b.instances.items;
+    } };
 
-    ghost invariant = { λ b. IsKept (record { ports = record { inputs = b.inputs.items; outputs = b.outputs.items }; outputs = b.output_wires.items; nodes = b.nodes.items; memories = b.memories.items; instances = b.instances.items }) b.weight b.is_output.items b.first_outputs.items };
+    ghost invariant = { λ b. IsKept (record {
+      ports = record { inputs = b.inputs.items; outputs = b.outputs.items };
+      outputs = b.output_wires.items;
+      nodes = b.nodes.items;
+      memories = b.memories.items;
+      instances = b.instances.items;
+    }) b.weight b.is_output.items b.first_outputs.items };
 }
 
 impl Builder {
@@ -80,7 +97,8 @@ impl Builder {
     /// The weight of all rows so far: for each node 1 and its operands, for each memory 1 and for each of its write
     /// ports 4, for each instance 1 and for each of its connections 2.
     pub fn weight(&self) -> u64
-        ensures { result ≡ graph_weight self.now }
+        ensures value { result ≡ graph_weight self.now }
+        ensures rows { length self.now.nodes + length self.now.memories + length self.now.instances ≤ result }
     {
         self.weight
     }

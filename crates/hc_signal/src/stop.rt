@@ -13,6 +13,14 @@ pub enum BuildStop {
     NoMemory,
 }
 
+impl From<FaultKind> for BuildStop {
+    ghost from_gives = { λ kind e. e ≡ stop.Fault kind };
+
+    fn from(kind: FaultKind) -> BuildStop {
+        BuildStop::Fault(kind)
+    }
+}
+
 impl From<NoMemory> for BuildStop {
     ghost from_gives = { λ _ e. e ≡ stop.NoMemory };
 

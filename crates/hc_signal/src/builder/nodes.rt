@@ -1,89 +1,29 @@
-ghost use Rattle.std.specs.Prelude.{◌≡◌, ◌≢◌, ◌+◌, ◌<◌, ◌≤◌, ◌^◌, true, nat_abs, None, Some, IfOk, OnOk, OnErr, IfErr};
+ghost use Rattle.std.specs.Prelude.{◌≡◌, ◌≢◌, ◌+◌, ◌<◌, ◌≤◌, ◌^◌, IsTrue, nat_abs, None, Some, IfOk, OnOk, OnErr, IfErr};
 ghost use Rattle.hc_bits.specs.BitVector.{IsWidth};
 ghost use Rattle.hc_signal.specs.declared.signal.Node.TheVariants as node;
 ghost use Rattle.hc_signal.specs.declared.stop.BuildStop.TheVariants as stop;
 ghost use Rattle.hc_signal.specs.Graph.{Graph};
 ghost use Rattle.hc_signal.specs.Weight.{operands};
 ghost use Rattle.hc_signal.specs.Lawful.{IsLawfulNode};
-ghost use Rattle.hc_signal.specs.Rules.{width_rule, two_rule, two_width, drive_rule};
-ghost use Rattle.hc_signal.specs.Builds.{IsNode, IsWire, HasRoom, Obeys, AddsNode, AddsInput, AddsOutput, is_inner, is_driven, is_driven_at, is_wire, driven_from, width_at, with_driver};
+ghost use Rattle.hc_signal.specs.Rules.{width_rule, drive_rule};
+ghost use Rattle.hc_signal.specs.Builds.{IsNode, IsWire, HasRoomForNode, Obeys, AddsNode, is_inner, driver_of, is_driven_at, is_wire, driven_from, width_at, with_driver};
 
 use super::Builder;
-use crate::rules::{as_width, drive_fault, width_of_two};
-use crate::signal::{Node, NodeId, NodeRow, Op2, Port};
+use crate::rules::{as_width, check_drive};
+use crate::signal::{Node, NodeId, NodeRow};
 use crate::stop::BuildStop;
-use hc_fault::{Name, NoMemory};
+use hc_bits::Bits;
+use hc_fault::NoMemory;
 
 impl Builder {
-    /// Adds an input port of this width in bits, and its node. F12 where the width is not 1 to 128.
-    pub fn input(&mut self, name: &Name, width: i64) -> Result<NodeId, BuildStop>
-        requires room { HasRoom self.old 0 }
-        ensures made { IfOk result (AddsInput self.old name.now (nat_abs width) self.new) }
-        ensures rule { Obeys result (width_rule width) }
-        ensures same { OnErr result (self.new ≡ self.old) }
-    {
-        let width = match as_width(width) {
-            Ok(width) => width,
-            Err(kind) => return Err(BuildStop::Fault(kind)),
-        };
-        let name = Name::new(self.alloc, name.bytes())?;
-        self.inputs.reserve(1)?;
-        self.nodes.reserve(1)?;
-        self.is_output.reserve(1)?;
-        let id = NodeId(self.nodes.len() as u32);
-        let port = self.inputs.len() as u32;
-        self.inputs.push_reserved(Port { name, width });
-        self.nodes.push_reserved(NodeRow {
-            width,
-            node: Node::Input { port },
-            label: None,
-        });
-        self.is_output.push_reserved(false);
-        self.weight += 1;
-        Ok(id)
-    }
-
-    /// Adds an output port of this width in bits, and its wire, which has no driver yet. F12 where the width is not
-    /// 1 to 128.
-    pub fn output(&mut self, name: &Name, width: i64) -> Result<NodeId, BuildStop>
-        requires room { HasRoom self.old 1 }
-        ensures made { IfOk result (AddsOutput self.old name.now (nat_abs width) self.new) }
-        ensures rule { Obeys result (width_rule width) }
-        ensures same { OnErr result (self.new ≡ self.old) }
-    {
-        let width = match as_width(width) {
-            Ok(width) => width,
-            Err(kind) => return Err(BuildStop::Fault(kind)),
-        };
-        let name = Name::new(self.alloc, name.bytes())?;
-        self.outputs.reserve(1)?;
-        self.output_wires.reserve(1)?;
-        self.nodes.reserve(1)?;
-        self.is_output.reserve(1)?;
-        let id = NodeId(self.nodes.len() as u32);
-        self.outputs.push_reserved(Port { name, width });
-        self.output_wires.push_reserved(id);
-        self.nodes.push_reserved(NodeRow {
-            width,
-            node: Node::Wire { driver: None },
-            label: None,
-        });
-        self.is_output.push_reserved(true);
-        self.weight += 2;
-        Ok(id)
-    }
-
     /// Adds a wire of this width in bits, which has no driver yet. F12 where the width is not 1 to 128.
     pub fn wire(&mut self, width: i64) -> Result<NodeId, BuildStop>
-        requires room { HasRoom self.old 1 }
+        requires room { HasRoomForNode self.old 1 }
         ensures made { IfOk result (AddsNode self.old (nat_abs width) (node.Wire None) self.new) }
         ensures rule { Obeys result (width_rule width) }
         ensures same { OnErr result (self.new ≡ self.old) }
     {
-        let width = match as_width(width) {
-            Ok(width) => width,
-            Err(kind) => return Err(BuildStop::Fault(kind)),
-        };
+        let width = as_width(width)?;
         Ok(self.add(width, Node::Wire { driver: None })?)
     }
 
@@ -92,41 +32,40 @@ impl Builder {
         requires wire { IsWire self.old wire }
         requires from { IsNode self.old from }
         ensures made { OnOk result (self.new ≡ with_driver self.old wire from) }
-        ensures rule { Obeys result (drive_rule (width_at self.old wire) (width_at self.old from) (is_driven_at self.old wire)) }
+        ensures rule { let g = self.old in
+            Obeys result (drive_rule (width_at g wire) (width_at g from) (is_driven_at g wire)) }
         ensures same { OnErr result (self.new ≡ self.old) }
         ensures no_memory { IfErr result (λ e. e ≢ stop.NoMemory) }
     {
-        let is_driven = is_driven(&self.nodes[wire.0 as usize]);
-        if let Some(kind) = drive_fault(self.width(wire), self.width(from), is_driven) {
-            return Err(BuildStop::Fault(kind));
-        }
+        check_drive(self.width(wire), self.width(from), self.is_driven(wire))?;
         connect(&mut self.nodes[wire.0 as usize], from);
         Ok(())
     }
 
-    /// Adds an operator over two nodes. F12 where a product is wider than 128 bits; F15 where the operands of another
-    /// operator differ in width.
-    pub fn two(&mut self, op: Op2, a: NodeId, b: NodeId) -> Result<NodeId, BuildStop>
-        requires room { HasRoom self.old 2 }
-        requires a_node { IsNode self.old a }
-        requires b_node { IsNode self.old b }
-        ensures made { IfOk result (AddsNode self.old (two_width op (width_at self.old a) (width_at self.old b)) (node.Two op a b) self.new) }
-        ensures rule { Obeys result (two_rule op (width_at self.old a) (width_at self.old b)) }
+    /// Adds a constant.
+    pub fn constant(&mut self, value: Bits) -> Result<NodeId, BuildStop>
+        requires room { HasRoomForNode self.old 0 }
+        ensures made { IfOk result (AddsNode self.old value.width (node.Const value) self.new) }
+        ensures rule { Obeys result None }
         ensures same { OnErr result (self.new ≡ self.old) }
     {
-        let width = match width_of_two(op, self.width(a), self.width(b)) {
-            Ok(width) => width,
-            Err(kind) => return Err(BuildStop::Fault(kind)),
-        };
-        Ok(self.add(width, Node::Two { op, a, b })?)
+        Ok(self.add(value.width(), Node::Const { value })?)
+    }
+
+    /// Whether a node is a wire with a driver.
+    fn is_driven(&self, id: NodeId) -> bool
+        requires { IsNode self.now id }
+        ensures { result ≡ is_driven_at self.now id }
+    {
+        driver_of(&self.nodes[id.0 as usize].node).is_some()
     }
 
     /// Adds a node that stands for no port, without a label.
     pub(super) fn add(&mut self, width: u32, node: Node) -> Result<NodeId, NoMemory>
-        requires room { HasRoom self.old (operands node) }
+        requires room { HasRoomForNode self.old (operands node) }
         requires width { IsWidth width }
         requires lawful { IsLawfulNode self.old width node }
-        requires inner { is_inner node ≡ true }
+        requires inner { IsTrue (is_inner node) }
         ensures made { IfOk result (AddsNode self.old width node self.new) }
         ensures same { OnErr result (self.new ≡ self.old) }
     {
@@ -145,19 +84,19 @@ impl Builder {
     }
 }
 
-/// Whether the row is a wire with a driver.
-fn is_driven(row: &NodeRow) -> bool
-    ensures { result ≡ is_driven (Some row.now) }
+/// The driver of a wire that has one.
+fn driver_of(node: &Node) -> Option<NodeId>
+    ensures { result ≡ driver_of node.now }
 {
-    match &row.node {
-        Node::Wire { driver } => driver.is_some(),
-        _ => false,
+    match node {
+        Node::Wire { driver } => *driver,
+        _ => None,
     }
 }
 
 /// Drives a wire.
 fn connect(row: &mut NodeRow, from: NodeId)
-    requires { is_wire row.old.node ≡ true }
+    requires { IsTrue (is_wire row.old.node) }
     ensures { row.new ≡ driven_from from row.old }
 {
     if let Node::Wire { driver } = &mut row.node {

@@ -1,0 +1,3 @@
+pub mod ModuleNames
+pub mod Templates
+pub mod ModuleText

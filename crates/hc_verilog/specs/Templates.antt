@@ -1,0 +1,203 @@
+-- The lines of a module, for any names.
+use Rattle.std.specs.Prelude.{ℕ, suc, ◌-◌, ◌^◌, Bool, false, ◌&&◌, ◌==◌, if◌then◌else◌, nat_le, List, [], ◌∷◌, ◌++◌, map, slice_get, flat_map, find, Option, Some, None, codes, decimal}
+use Rattle.std.specs.List.{zip, enumerate_from}
+use Rattle.std.specs.Option.{option_map_or}
+use Rattle.hc_bits.specs.BitVector.{BitVector}
+use Rattle.hc_bits.specs.Catalogue.{operation_name}
+use Rattle.hc_bits.specs.Digits.{hex_of}
+use Rattle.hc_signal.specs.declared.signal.Port.{Port}
+use Rattle.hc_signal.specs.declared.signal.NodeId.{NodeId}
+use Rattle.hc_signal.specs.declared.signal.NodeRow.{NodeRow}
+use Rattle.hc_signal.specs.declared.signal.Op2.{Op2}
+use Rattle.hc_signal.specs.declared.signal.Op2.TheVariants.{Add, Sub, Mulu, Muls, And, Or, Xor, Eq, Lt}
+use Rattle.hc_signal.specs.declared.signal.Node.{Node}
+use Rattle.hc_signal.specs.declared.signal.Node.TheVariants.{Input, Wire, Const, Two, Not, Mux, Cat, Select, Reg, Read, InstOut, Op}
+use Rattle.hc_signal.specs.declared.signal.Memory.{Memory}
+use Rattle.hc_signal.specs.declared.signal.WritePort.{WritePort}
+use Rattle.hc_signal.specs.declared.signal.Instance.{Instance}
+use Rattle.hc_signal.specs.Graph.{Graph, node, mem, inst}
+use Rattle.hc_verilog.specs.ModuleNames.{Named, vertex, cell, numbered_nodes, inner_nodes}
+
+-- the range of a signal of w bits, as `[7:0]`
+unfoldable pub range : ℕ → List ℕ
+range w = codes "[" ++ decimal (w - 1) ++ codes ":0]"
+
+-- a number of w bits, as `8'h0f`
+unfoldable pub literal : ℕ → ℕ → List ℕ
+literal w v = decimal w ++ codes "'h" ++ hex_of w v
+
+-- the sign between two operands
+unfoldable pub sign_of : Op2 → List ℕ
+sign_of Add = codes " + "
+sign_of Sub = codes " - "
+sign_of Mulu = codes " * "
+sign_of Muls = codes " * "
+sign_of And = codes " & "
+sign_of Or = codes " | "
+sign_of Xor = codes " ^ "
+sign_of Eq = codes " == "
+sign_of Lt = codes " < "
+
+-- the texts with a comma and a blank between two
+unfoldable pub comma_list : List (List ℕ) → List ℕ
+comma_list [] = []
+comma_list (x ∷ []) = x
+comma_list (x ∷ y ∷ xs) = x ++ codes ", " ++ comma_list (y ∷ xs)
+
+-- the lines, each but the last with a comma at its end
+unfoldable pub with_commas : List (List ℕ) → List (List ℕ)
+with_commas [] = []
+with_commas (x ∷ []) = x ∷ []
+with_commas (x ∷ y ∷ xs) = (x ++ codes ",") ∷ with_commas (y ∷ xs)
+
+-- the line of an assignment
+unfoldable pub assign : List ℕ → List ℕ → List ℕ
+assign target value = codes "  assign " ++ target ++ codes " = " ++ value ++ codes ";"
+
+-- lines that act at each edge of the clock
+unfoldable pub clocked : List (List ℕ) → List (List ℕ)
+clocked lines = codes "  always @(posedge clock) begin" ∷ (lines ++ codes "  end" ∷ [])
+
+-- A module of the circuit g, where `name` gives each thing its name.
+module _ (g : Graph) (name : Named → List ℕ) where
+  unfoldable pub width_at : NodeId → ℕ
+  width_at id = option_map_or (λ (row : NodeRow). row.width) (slice_get g.nodes id.0) 0
+
+  unfoldable pub size_at : ℕ → ℕ
+  size_at m = option_map_or (λ (memory : Memory). memory.size) (slice_get g.memories m) 0
+
+  unfoldable pub name_of_id : NodeId → List ℕ
+  name_of_id id = name (vertex (node id.0))
+
+  -- ---- the header
+
+  unfoldable pub input_line : ℕ × Port → List ℕ
+  input_line p = codes "  input " ++ range p.1.width ++ codes " " ++ name (vertex (node p.0)) ++ codes ","
+
+  unfoldable pub output_line : NodeId × Port → List ℕ
+  output_line p = codes "  output " ++ range p.1.width ++ codes " " ++ name_of_id p.0
+
+  unfoldable pub header : List ℕ → List (List ℕ)
+  header title =
+      (codes "module " ++ title ++ codes " (")
+      ∷ codes "  input clock,"
+      ∷ (map input_line (enumerate_from 0 g.ports.inputs) ++ with_commas (map output_line (zip g.outputs g.ports.outputs)) ++ codes ");" ∷ [])
+
+  -- ---- declarations
+
+  unfoldable pub declaration : ℕ × NodeRow → List ℕ
+  declaration p = by p.1.node
+    where
+      by : Node → List ℕ
+      by (Reg next enable clear init) = codes "  reg " ++ range p.1.width ++ codes " " ++ name (vertex (node p.0)) ++ codes " = " ++ literal p.1.width init.value ++ codes ";"
+      by other = codes "  wire " ++ range p.1.width ++ codes " " ++ name (vertex (node p.0)) ++ codes ";"
+
+  unfoldable pub memory_declaration : ℕ × Memory → List ℕ
+  memory_declaration p = codes "  reg " ++ range p.1.width ++ codes " " ++ name (vertex (mem p.0)) ++ codes " [0:" ++ decimal (p.1.size - 1) ++ codes "];"
+
+  -- ---- items
+
+  unfoldable pub binary_text : Op2 → NodeId → NodeId → List ℕ
+  binary_text Muls a b = codes "$signed(" ++ name_of_id a ++ codes ") * $signed(" ++ name_of_id b ++ codes ")"
+  binary_text op a b = name_of_id a ++ sign_of op ++ name_of_id b
+
+  -- the cases of a mux from number k on, each but the last with its test
+  unfoldable pub mux_text : NodeId → ℕ → List NodeId → List ℕ
+  mux_text sel k [] = []
+  mux_text sel k (c ∷ []) = name_of_id c
+  mux_text sel k (c ∷ d ∷ cs) = name_of_id sel ++ codes " == " ++ literal (width_at sel) k ++ codes " ? " ++ name_of_id c ++ codes " : " ++ mux_text sel (suc k) (d ∷ cs)
+
+  -- a word of a memory
+  unfoldable pub word_text : ℕ → NodeId → List ℕ
+  word_text m addr = name (vertex (mem m)) ++ codes "[" ++ name_of_id addr ++ codes "]"
+
+  -- a read of w bits; where an address may lie past the memory's end, with a test
+  unfoldable pub read_text : ℕ → ℕ → NodeId → List ℕ
+  read_text w m addr =
+      if nat_le (2 ^ width_at addr) (size_at m) then word_text m addr
+      else (name_of_id addr ++ codes " < " ++ literal (width_at addr) (size_at m) ++ codes " ? " ++ word_text m addr ++ codes " : " ++ literal w 0)
+
+  unfoldable pub register_lines : List ℕ → NodeId → Option NodeId → Option (NodeId × BitVector) → List (List ℕ)
+  register_lines x next None None = (codes "    " ++ x ++ codes " <= " ++ name_of_id next ++ codes ";") ∷ []
+  register_lines x next (Some en) None = (codes "    if (" ++ name_of_id en ++ codes ") " ++ x ++ codes " <= " ++ name_of_id next ++ codes ";") ∷ []
+  register_lines x next None (Some c) = (codes "    if (" ++ name_of_id c.0 ++ codes ") " ++ x ++ codes " <= " ++ literal c.1.width c.1.value ++ codes ";") ∷ (codes "    else " ++ x ++ codes " <= " ++ name_of_id next ++ codes ";") ∷ []
+  register_lines x next (Some en) (Some c) = (codes "    if (" ++ name_of_id c.0 ++ codes ") " ++ x ++ codes " <= " ++ literal c.1.width c.1.value ++ codes ";") ∷ (codes "    else if (" ++ name_of_id en ++ codes ") " ++ x ++ codes " <= " ++ name_of_id next ++ codes ";") ∷ []
+
+  -- the arguments of an operation, and their width
+  unfoldable pub pins : List NodeId → List ℕ
+  pins [] = []
+  pins (a ∷ []) = codes ".a(" ++ name_of_id a ++ codes "), "
+  pins (a ∷ b ∷ more) = codes ".a(" ++ name_of_id a ++ codes "), .b(" ++ name_of_id b ++ codes "), "
+
+  unfoldable pub argument_width : List NodeId → ℕ
+  argument_width [] = 0
+  argument_width (a ∷ more) = width_at a
+
+  -- the item of the node at a place
+  unfoldable pub item : ℕ × NodeRow → List (List ℕ)
+  item p = by p.1.node
+    where
+      x : List ℕ
+      x = name (vertex (node p.0))
+
+      by : Node → List (List ℕ)
+      by (Input port) = []
+      by (Wire None) = []
+      by (Wire (Some d)) = assign x (name_of_id d) ∷ []
+      by (Const value) = assign x (literal p.1.width value.value) ∷ []
+      by (Two op a b) = assign x (binary_text op a b) ∷ []
+      by (Not a) = assign x (codes "~" ++ name_of_id a) ∷ []
+      by (Mux sel cases) = assign x (mux_text sel 0 cases) ∷ []
+      by (Cat parts) = assign x (codes "{" ++ comma_list (map name_of_id parts) ++ codes "}") ∷ []
+      by (Select a hi lo) = assign x (name_of_id a ++ codes "[" ++ decimal hi ++ codes ":" ++ decimal lo ++ codes "]") ∷ []
+      by (Reg next enable clear init) = clocked (register_lines x next enable clear)
+      by (Read m addr) = assign x (read_text p.1.width m.0 addr) ∷ []
+      by (InstOut i port) = []
+      by (Op kind args) = (codes "  op_" ++ operation_name kind ++ codes " #(.W(" ++ decimal (argument_width args) ++ codes ")) " ++ name (cell p.0) ++ codes " (" ++ pins args ++ codes ".y(" ++ x ++ codes "));") ∷ []
+
+  -- ---- memories
+
+  unfoldable pub write_line : ℕ → WritePort → List ℕ
+  write_line m w = codes "    if (" ++ name_of_id w.enable ++ codes ") " ++ word_text m w.addr ++ codes " <= " ++ name_of_id w.value ++ codes ";"
+
+  -- the writes of a memory that has write ports
+  unfoldable pub memory_lines : ℕ × Memory → List (List ℕ)
+  memory_lines p = by p.1.writes
+    where
+      by : List WritePort → List (List ℕ)
+      by [] = []
+      by (w ∷ ws) = clocked (map (write_line p.0) (w ∷ ws))
+
+  -- ---- instances
+
+  abbrev pub is_output_of : ℕ → ℕ → Node → Bool
+  is_output_of i port (InstOut it q) = (it.0 == i) && (q == port)
+  is_output_of i port other = false
+
+  -- the name of the node of an instance's output; nothing where it has no node
+  unfoldable pub output_node_name : ℕ → ℕ → List ℕ
+  output_node_name i port = option_map_or (λ (p : ℕ × NodeRow). name (vertex (node p.0))) (find (λ (p : ℕ × NodeRow). is_output_of i port p.1.node) (numbered_nodes g)) []
+
+  unfoldable pub connection_line : Port × NodeId → List ℕ
+  connection_line c = codes "    ." ++ c.0.name ++ codes "(" ++ name_of_id c.1 ++ codes "),"
+
+  unfoldable pub result_line : ℕ → ℕ × Port → List ℕ
+  result_line i q = codes "    ." ++ q.1.name ++ codes "(" ++ output_node_name i q.0 ++ codes ")"
+
+  -- an instance of the module of this title
+  unfoldable pub instance_lines : (ℕ → List ℕ) → ℕ × Instance → List (List ℕ)
+  instance_lines modules p =
+      (codes "  " ++ modules p.0 ++ codes " " ++ name (vertex (inst p.0)) ++ codes " (")
+      ∷ codes "    .clock(clock),"
+      ∷ (map connection_line (zip p.1.ports.inputs p.1.conns) ++ with_commas (map (result_line p.0) (enumerate_from 0 p.1.ports.outputs)) ++ codes "  );" ∷ [])
+
+  -- ---- the module; `modules` names the module of each instance
+
+  unfoldable pub module_lines : (ℕ → List ℕ) → List ℕ → List (List ℕ)
+  module_lines modules title =
+      header title
+      ++ map declaration (inner_nodes g) ++ map memory_declaration (enumerate_from 0 g.memories)
+      ++ flat_map item (numbered_nodes g)
+      ++ flat_map memory_lines (enumerate_from 0 g.memories)
+      ++ flat_map (instance_lines modules) (enumerate_from 0 g.instances)
+      ++ codes "endmodule" ∷ []

@@ -1,3 +1,4 @@
 pub mod ModuleNames
 pub mod Templates
+pub mod NameTable
 pub mod ModuleText

@@ -15,7 +15,7 @@ use Rattle.hc_verilog.specs.Templates.{module_lines}
 
 -- The module of a circuit in canonical numbering, under a title. `modules` names the module of each instance.
 abbrev pub IsModuleText : Graph → (ℕ → List ℕ) → List ℕ → List ℕ → Type 0
-IsModuleText g modules title text = (names : List (Named × List ℕ)) × Takes [] (wanted g) names × (text ≡ lines_text (module_lines g (name_in names) modules title))
+IsModuleText g modules title text = (names : List (Named × List ℕ)) × Takes [] (wanted g) names × (text ≡ lines_text (module_lines (name_in names) g modules title))
 
 -- each entry has a row
 abbrev pub AreNamed : List (EntryId × List ℕ) → List EntryId → Type 0

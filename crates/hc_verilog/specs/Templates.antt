@@ -2,6 +2,7 @@
 use Rattle.std.specs.Prelude.{ℕ, suc, ◌-◌, ◌^◌, Bool, false, ◌&&◌, ◌==◌, if◌then◌else◌, nat_le, List, [], ◌∷◌, ◌++◌, map, slice_get, flat_map, find, Option, Some, None, codes, decimal}
 use Rattle.std.specs.List.{zip, enumerate_from}
 use Rattle.std.specs.Option.{option_map_or}
+use Rattle.hc_bits.specs.declared.kind.OpKind.{OpKind}
 use Rattle.hc_bits.specs.BitVector.{BitVector}
 use Rattle.hc_bits.specs.Catalogue.{operation_name}
 use Rattle.hc_bits.specs.Digits.{hex_of}
@@ -58,14 +59,24 @@ assign target value = codes "  assign " ++ target ++ codes " = " ++ value ++ cod
 unfoldable pub clocked : List (List ℕ) → List (List ℕ)
 clocked lines = codes "  always @(posedge clock) begin" ∷ (lines ++ codes "  end" ∷ [])
 
--- A module of the circuit g, where `name` gives each thing its name.
-module _ (g : Graph) (name : Named → List ℕ) where
-  unfoldable pub width_at : NodeId → ℕ
-  width_at id = option_map_or (λ (row : NodeRow). row.width) (slice_get g.nodes id.0) 0
+unfoldable pub width_at : Graph → NodeId → ℕ
+width_at g id = option_map_or (λ (row : NodeRow). row.width) (slice_get g.nodes id.0) 0
 
-  unfoldable pub size_at : ℕ → ℕ
-  size_at m = option_map_or (λ (memory : Memory). memory.size) (slice_get g.memories m) 0
+unfoldable pub size_at : Graph → ℕ → ℕ
+size_at g m = option_map_or (λ (memory : Memory). memory.size) (slice_get g.memories m) 0
 
+-- the width of the arguments of an operation
+unfoldable pub argument_width : Graph → List NodeId → ℕ
+argument_width g [] = 0
+argument_width g (a ∷ more) = width_at g a
+
+-- whether a node is this output of this instance
+abbrev pub is_output_of : ℕ → ℕ → Node → Bool
+is_output_of i port (InstOut it q) = (it.0 == i) && (q == port)
+is_output_of i port other = false
+
+-- The lines of a module where `name` gives each thing its name.
+module _ (name : Named → List ℕ) where
   unfoldable pub name_of_id : NodeId → List ℕ
   name_of_id id = name (vertex (node id.0))
 
@@ -77,8 +88,8 @@ module _ (g : Graph) (name : Named → List ℕ) where
   unfoldable pub output_line : NodeId × Port → List ℕ
   output_line p = codes "  output " ++ range p.1.width ++ codes " " ++ name_of_id p.0
 
-  unfoldable pub header : List ℕ → List (List ℕ)
-  header title =
+  unfoldable pub header : Graph → List ℕ → List (List ℕ)
+  header g title =
       (codes "module " ++ title ++ codes " (")
       ∷ codes "  input clock,"
       ∷ (map input_line (enumerate_from 0 g.ports.inputs) ++ with_commas (map output_line (zip g.outputs g.ports.outputs)) ++ codes ");" ∷ [])
@@ -101,21 +112,21 @@ module _ (g : Graph) (name : Named → List ℕ) where
   binary_text Muls a b = codes "$signed(" ++ name_of_id a ++ codes ") * $signed(" ++ name_of_id b ++ codes ")"
   binary_text op a b = name_of_id a ++ sign_of op ++ name_of_id b
 
-  -- the cases of a mux from number k on, each but the last with its test
-  unfoldable pub mux_text : NodeId → ℕ → List NodeId → List ℕ
-  mux_text sel k [] = []
-  mux_text sel k (c ∷ []) = name_of_id c
-  mux_text sel k (c ∷ d ∷ cs) = name_of_id sel ++ codes " == " ++ literal (width_at sel) k ++ codes " ? " ++ name_of_id c ++ codes " : " ++ mux_text sel (suc k) (d ∷ cs)
+  -- the cases of a mux from number k on, each but the last with its test; the selector has ws bits
+  unfoldable pub mux_text : ℕ → NodeId → ℕ → List NodeId → List ℕ
+  mux_text ws sel k [] = []
+  mux_text ws sel k (c ∷ []) = name_of_id c
+  mux_text ws sel k (c ∷ d ∷ cs) = name_of_id sel ++ codes " == " ++ literal ws k ++ codes " ? " ++ name_of_id c ++ codes " : " ++ mux_text ws sel (suc k) (d ∷ cs)
 
   -- a word of a memory
   unfoldable pub word_text : ℕ → NodeId → List ℕ
   word_text m addr = name (vertex (mem m)) ++ codes "[" ++ name_of_id addr ++ codes "]"
 
-  -- a read of w bits; where an address may lie past the memory's end, with a test
-  unfoldable pub read_text : ℕ → ℕ → NodeId → List ℕ
-  read_text w m addr =
-      if nat_le (2 ^ width_at addr) (size_at m) then word_text m addr
-      else (name_of_id addr ++ codes " < " ++ literal (width_at addr) (size_at m) ++ codes " ? " ++ word_text m addr ++ codes " : " ++ literal w 0)
+  -- A read of w bits by an address of wa bits, with a test where an address may lie past the memory's end.
+  unfoldable pub read_text : ℕ → ℕ → ℕ → ℕ → NodeId → List ℕ
+  read_text w wa size m addr =
+      if nat_le (2 ^ wa) size then word_text m addr
+      else (name_of_id addr ++ codes " < " ++ literal wa size ++ codes " ? " ++ word_text m addr ++ codes " : " ++ literal w 0)
 
   unfoldable pub register_lines : List ℕ → NodeId → Option NodeId → Option (NodeId × BitVector) → List (List ℕ)
   register_lines x next None None = (codes "    " ++ x ++ codes " <= " ++ name_of_id next ++ codes ";") ∷ []
@@ -123,44 +134,41 @@ module _ (g : Graph) (name : Named → List ℕ) where
   register_lines x next None (Some c) = (codes "    if (" ++ name_of_id c.0 ++ codes ") " ++ x ++ codes " <= " ++ literal c.1.width c.1.value ++ codes ";") ∷ (codes "    else " ++ x ++ codes " <= " ++ name_of_id next ++ codes ";") ∷ []
   register_lines x next (Some en) (Some c) = (codes "    if (" ++ name_of_id c.0 ++ codes ") " ++ x ++ codes " <= " ++ literal c.1.width c.1.value ++ codes ";") ∷ (codes "    else if (" ++ name_of_id en ++ codes ") " ++ x ++ codes " <= " ++ name_of_id next ++ codes ";") ∷ []
 
-  -- the arguments of an operation, and their width
+  -- the arguments of an operation
   unfoldable pub pins : List NodeId → List ℕ
   pins [] = []
   pins (a ∷ []) = codes ".a(" ++ name_of_id a ++ codes "), "
   pins (a ∷ b ∷ more) = codes ".a(" ++ name_of_id a ++ codes "), .b(" ++ name_of_id b ++ codes "), "
 
-  unfoldable pub argument_width : List NodeId → ℕ
-  argument_width [] = 0
-  argument_width (a ∷ more) = width_at a
+  -- an operation on arguments of w bits, with the names of its cell and of its node
+  unfoldable pub operation_line : OpKind → ℕ → List NodeId → List ℕ → List ℕ → List ℕ
+  operation_line kind w args o x = codes "  op_" ++ operation_name kind ++ codes " #(.W(" ++ decimal w ++ codes ")) " ++ o ++ codes " (" ++ pins args ++ codes ".y(" ++ x ++ codes "));"
 
-  -- the item of the node at a place
-  unfoldable pub item : ℕ × NodeRow → List (List ℕ)
-  item p = by p.1.node
-    where
-      x : List ℕ
-      x = name (vertex (node p.0))
+  -- the lines for a node of width w at place n
+  unfoldable pub node_lines : Graph → ℕ → ℕ → Node → List (List ℕ)
+  node_lines g n w (Input port) = []
+  node_lines g n w (Wire None) = []
+  node_lines g n w (Wire (Some d)) = assign (name (vertex (node n))) (name_of_id d) ∷ []
+  node_lines g n w (Const value) = assign (name (vertex (node n))) (literal w value.value) ∷ []
+  node_lines g n w (Two op a b) = assign (name (vertex (node n))) (binary_text op a b) ∷ []
+  node_lines g n w (Not a) = assign (name (vertex (node n))) (codes "~" ++ name_of_id a) ∷ []
+  node_lines g n w (Mux sel cases) = assign (name (vertex (node n))) (mux_text (width_at g sel) sel 0 cases) ∷ []
+  node_lines g n w (Cat parts) = assign (name (vertex (node n))) (codes "{" ++ comma_list (map name_of_id parts) ++ codes "}") ∷ []
+  node_lines g n w (Select a hi lo) = assign (name (vertex (node n))) (name_of_id a ++ codes "[" ++ decimal hi ++ codes ":" ++ decimal lo ++ codes "]") ∷ []
+  node_lines g n w (Reg next enable clear init) = clocked (register_lines (name (vertex (node n))) next enable clear)
+  node_lines g n w (Read m addr) = assign (name (vertex (node n))) (read_text w (width_at g addr) (size_at g m.0) m.0 addr) ∷ []
+  node_lines g n w (InstOut i port) = []
+  node_lines g n w (Op kind args) = operation_line kind (argument_width g args) args (name (cell n)) (name (vertex (node n))) ∷ []
 
-      by : Node → List (List ℕ)
-      by (Input port) = []
-      by (Wire None) = []
-      by (Wire (Some d)) = assign x (name_of_id d) ∷ []
-      by (Const value) = assign x (literal p.1.width value.value) ∷ []
-      by (Two op a b) = assign x (binary_text op a b) ∷ []
-      by (Not a) = assign x (codes "~" ++ name_of_id a) ∷ []
-      by (Mux sel cases) = assign x (mux_text sel 0 cases) ∷ []
-      by (Cat parts) = assign x (codes "{" ++ comma_list (map name_of_id parts) ++ codes "}") ∷ []
-      by (Select a hi lo) = assign x (name_of_id a ++ codes "[" ++ decimal hi ++ codes ":" ++ decimal lo ++ codes "]") ∷ []
-      by (Reg next enable clear init) = clocked (register_lines x next enable clear)
-      by (Read m addr) = assign x (read_text p.1.width m.0 addr) ∷ []
-      by (InstOut i port) = []
-      by (Op kind args) = (codes "  op_" ++ operation_name kind ++ codes " #(.W(" ++ decimal (argument_width args) ++ codes ")) " ++ name (cell p.0) ++ codes " (" ++ pins args ++ codes ".y(" ++ x ++ codes "));") ∷ []
+  unfoldable pub item : Graph → ℕ × NodeRow → List (List ℕ)
+  item g p = node_lines g p.0 p.1.width p.1.node
 
   -- ---- memories
 
   unfoldable pub write_line : ℕ → WritePort → List ℕ
   write_line m w = codes "    if (" ++ name_of_id w.enable ++ codes ") " ++ word_text m w.addr ++ codes " <= " ++ name_of_id w.value ++ codes ";"
 
-  -- the writes of a memory that has write ports
+  -- the lines for the write ports of a memory, where it has any
   unfoldable pub memory_lines : ℕ × Memory → List (List ℕ)
   memory_lines p = by p.1.writes
     where
@@ -170,34 +178,30 @@ module _ (g : Graph) (name : Named → List ℕ) where
 
   -- ---- instances
 
-  abbrev pub is_output_of : ℕ → ℕ → Node → Bool
-  is_output_of i port (InstOut it q) = (it.0 == i) && (q == port)
-  is_output_of i port other = false
-
-  -- the name of the node of an instance's output; nothing where it has no node
-  unfoldable pub output_node_name : ℕ → ℕ → List ℕ
-  output_node_name i port = option_map_or (λ (p : ℕ × NodeRow). name (vertex (node p.0))) (find (λ (p : ℕ × NodeRow). is_output_of i port p.1.node) (numbered_nodes g)) []
-
   unfoldable pub connection_line : Port × NodeId → List ℕ
   connection_line c = codes "    ." ++ c.0.name ++ codes "(" ++ name_of_id c.1 ++ codes "),"
 
-  unfoldable pub result_line : ℕ → ℕ × Port → List ℕ
-  result_line i q = codes "    ." ++ q.1.name ++ codes "(" ++ output_node_name i q.0 ++ codes ")"
+  -- the name of the node of an instance's output; nothing where it has no node
+  unfoldable pub output_name : Graph → ℕ → ℕ → List ℕ
+  output_name g i port = option_map_or (λ (p : ℕ × NodeRow). name (vertex (node p.0))) (find (λ (p : ℕ × NodeRow). is_output_of i port p.1.node) (numbered_nodes g)) []
 
-  -- an instance of the module of this title
-  unfoldable pub instance_lines : (ℕ → List ℕ) → ℕ × Instance → List (List ℕ)
-  instance_lines modules p =
+  unfoldable pub result_line : Graph → ℕ → ℕ × Port → List ℕ
+  result_line g i q = codes "    ." ++ q.1.name ++ codes "(" ++ output_name g i q.0 ++ codes ")"
+
+  -- an instance of a module of this title
+  unfoldable pub instance_lines : Graph → (ℕ → List ℕ) → ℕ × Instance → List (List ℕ)
+  instance_lines g modules p =
       (codes "  " ++ modules p.0 ++ codes " " ++ name (vertex (inst p.0)) ++ codes " (")
       ∷ codes "    .clock(clock),"
-      ∷ (map connection_line (zip p.1.ports.inputs p.1.conns) ++ with_commas (map (result_line p.0) (enumerate_from 0 p.1.ports.outputs)) ++ codes "  );" ∷ [])
+      ∷ (map connection_line (zip p.1.ports.inputs p.1.conns) ++ with_commas (map (result_line g p.0) (enumerate_from 0 p.1.ports.outputs)) ++ codes "  );" ∷ [])
 
   -- ---- the module; `modules` names the module of each instance
 
-  unfoldable pub module_lines : (ℕ → List ℕ) → List ℕ → List (List ℕ)
-  module_lines modules title =
-      header title
+  unfoldable pub module_lines : Graph → (ℕ → List ℕ) → List ℕ → List (List ℕ)
+  module_lines g modules title =
+      header g title
       ++ map declaration (inner_nodes g) ++ map memory_declaration (enumerate_from 0 g.memories)
-      ++ flat_map item (numbered_nodes g)
+      ++ flat_map (item g) (numbered_nodes g)
       ++ flat_map memory_lines (enumerate_from 0 g.memories)
-      ++ flat_map (instance_lines modules) (enumerate_from 0 g.instances)
+      ++ flat_map (instance_lines g modules) (enumerate_from 0 g.instances)
       ++ codes "endmodule" ∷ []

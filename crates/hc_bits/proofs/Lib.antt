@@ -1,0 +1,5 @@
+pub mod Choices
+pub mod Counts
+pub mod Lengths
+pub mod Masks
+pub mod Signs

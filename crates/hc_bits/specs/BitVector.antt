@@ -1,5 +1,5 @@
 -- Bit vectors, and the value of each operator.
-use Rattle.std.specs.Prelude.{◌≡◌, ℕ, zero, suc, ◌+◌, ◌-◌, ◌*◌, ◌/◌, ◌%◌, ◌^◌, ◌<◌, ◌≤◌, Bool, if◌then◌else◌, nat_lt, ◌==◌, List, [], ◌∷◌, bit_and, bit_or, bit_xor, ℤ, pos, ◌-ℤ◌, ◌*ℤ◌, nat_abs}
+use Rattle.std.specs.Prelude.{◌≡◌, ℕ, zero, suc, ◌+◌, ◌-◌, ◌*◌, ◌/◌, ◌%◌, ◌^◌, ◌<◌, ◌≤◌, Bool, if◌then◌else◌, nat_lt, nat_le, ◌==◌, Option, Some, None, List, [], ◌∷◌, bit_and, bit_or, bit_xor, ℤ, pos, negsuc, ◌-ℤ◌, ◌*ℤ◌, nat_abs}
 use Rattle.std.specs.Int.{int_rem_euclid}
 
 -- a width that a bit vector may have
@@ -23,6 +23,11 @@ IsVector x w = IsBitVector x × (x.width ≡ w)
 -- the number of a bit pattern as a two's complement number
 abbrev pub signed : BitVector → ℤ
 signed x = if nat_lt x.value (2 ^ (x.width - 1)) then pos x.value else (pos x.value -ℤ pos (2 ^ x.width))
+
+-- the bit pattern of a number in w bits: unsigned where it is not negative, two's complement where it is
+abbrev pub from_i64 : ℕ → ℤ → Option BitVector
+from_i64 w (pos n) = if nat_lt n (2 ^ w) then Some (record { width = w; value = n }) else None
+from_i64 w (negsuc n) = if nat_le (n + 1) (2 ^ (w - 1)) then Some (record { width = w; value = 2 ^ w - (n + 1) }) else None
 
 -- one bit, 1 where the test holds
 abbrev pub bit : Bool → BitVector

@@ -1,5 +1,6 @@
 -- The catalogue of combinational operations: names, arguments, widths, values.
-use Rattle.std.specs.Prelude.{ℕ, zero, suc, ◌+◌, ◌-◌, ◌*◌, ◌/◌, ◌%◌, ◌^◌, min, max, if◌then◌else◌, nat_le, List, [], ◌∷◌, codes}
+use Rattle.std.specs.Prelude.{ℕ, zero, suc, ◌+◌, ◌-◌, ◌*◌, ◌/◌, ◌%◌, ◌^◌, min, max, if◌then◌else◌, nat_le, List, [], ◌∷◌, codes, Option, find}
+use Rattle.std.specs.Str.{bytes_eq}
 use Rattle.hc_bits.specs.declared.kind.OpKind.{OpKind}
 use Rattle.hc_bits.specs.declared.kind.OpKind.TheVariants.{Popcount, Clz, Rev, Min, Max, SatAdd}
 use Rattle.hc_bits.specs.BitVector.{BitVector}
@@ -30,6 +31,14 @@ operation_name Rev = codes "rev"
 operation_name Min = codes "min"
 operation_name Max = codes "max"
 operation_name SatAdd = codes "satadd"
+
+-- the catalogue, in its order
+abbrev pub catalogue : List OpKind
+catalogue = Popcount ∷ Clz ∷ Rev ∷ Min ∷ Max ∷ SatAdd ∷ []
+
+-- the operation of this name
+abbrev pub find_kind : List ℕ → Option OpKind
+find_kind name = find (λ kind. bytes_eq (operation_name kind) name) catalogue
 
 -- how many arguments an operation takes, all of one width
 abbrev pub arity : OpKind → ℕ

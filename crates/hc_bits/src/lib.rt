@@ -5,4 +5,4 @@ mod bits;
 mod kind;
 
 pub use bits::Bits;
-pub use kind::OpKind;
+pub use kind::{OpKind, bits_of};

@@ -40,9 +40,12 @@ numbered_nodes g = enumerate_from (first_number g) (drop (first_number g) g.node
 abbrev pub is_output : Graph → ℕ → Bool
 is_output g n = list_any (λ (id : NodeId). id.0 == n) g.outputs
 
+abbrev pub is_inner : Graph → ℕ × NodeRow → Bool
+is_inner g p = if is_output g p.0 then false else true
+
 -- the numbered nodes that are no output
 abbrev pub inner_nodes : Graph → List (ℕ × NodeRow)
-inner_nodes g = filter (λ (p : ℕ × NodeRow). if is_output g p.0 then false else true) (numbered_nodes g)
+inner_nodes g = filter (is_inner g) (numbered_nodes g)
 
 abbrev pub is_operation : Node → Bool
 is_operation (Op kind args) = true
@@ -59,27 +62,45 @@ node_name g letter n = letter ++ decimal (n - first_number g)
 abbrev pub Wants : Type 0
 Wants = List (Named × List ℕ)
 
+abbrev pub want_input : ℕ × Port → Named × List ℕ
+want_input p = (vertex (node p.0), p.1.name)
+
+abbrev pub want_output : NodeId × Port → Named × List ℕ
+want_output p = (vertex (node p.0.0), p.1.name)
+
+abbrev pub want_node : Graph → ℕ × NodeRow → Named × List ℕ
+want_node g p = (vertex (node p.0), unwrap_or p.1.label (node_name g (codes "n") p.0))
+
+abbrev pub want_memory : ℕ × Memory → Named × List ℕ
+want_memory p = (vertex (mem p.0), unwrap_or p.1.label (codes "m" ++ decimal p.0))
+
+abbrev pub want_instance : ℕ × Instance → Named × List ℕ
+want_instance p = (vertex (inst p.0), unwrap_or p.1.label (codes "u" ++ decimal p.0))
+
+abbrev pub want_cell : Graph → ℕ × NodeRow → Named × List ℕ
+want_cell g p = (cell p.0, node_name g (codes "o") p.0)
+
 abbrev pub want_inputs : Graph → Wants
-want_inputs g = map (λ (p : ℕ × Port). (vertex (node p.0), p.1.name)) (enumerate_from 0 g.ports.inputs)
+want_inputs g = map want_input (enumerate_from 0 g.ports.inputs)
 
 abbrev pub want_outputs : Graph → Wants
-want_outputs g = map (λ (p : NodeId × Port). (vertex (node p.0.0), p.1.name)) (zip g.outputs g.ports.outputs)
+want_outputs g = map want_output (zip g.outputs g.ports.outputs)
 
 abbrev pub want_nodes : Graph → Wants
-want_nodes g = map (λ (p : ℕ × NodeRow). (vertex (node p.0), unwrap_or p.1.label (node_name g (codes "n") p.0))) (inner_nodes g)
+want_nodes g = map (want_node g) (inner_nodes g)
 
 abbrev pub want_memories : Graph → Wants
-want_memories g = map (λ (p : ℕ × Memory). (vertex (mem p.0), unwrap_or p.1.label (codes "m" ++ decimal p.0))) (enumerate_from 0 g.memories)
+want_memories g = map want_memory (enumerate_from 0 g.memories)
 
 abbrev pub want_instances : Graph → Wants
-want_instances g = map (λ (p : ℕ × Instance). (vertex (inst p.0), unwrap_or p.1.label (codes "u" ++ decimal p.0))) (enumerate_from 0 g.instances)
+want_instances g = map want_instance (enumerate_from 0 g.instances)
 
 abbrev pub want_cells : Graph → Wants
-want_cells g = map (λ (p : ℕ × NodeRow). (cell p.0, node_name g (codes "o") p.0)) (operation_nodes g)
+want_cells g = map (want_cell g) (operation_nodes g)
 
 -- the wanted names, in the order in which they are taken
 abbrev pub wanted : Graph → Wants
-wanted g = (clock, codes "clock") ∷ (want_inputs g ++ want_outputs g ++ want_nodes g ++ want_memories g ++ want_instances g ++ want_cells g)
+wanted g = (clock, codes "clock") ∷ (want_inputs g ++ (want_outputs g ++ (want_nodes g ++ (want_memories g ++ (want_instances g ++ want_cells g)))))
 
 -- The names given for the wanted ones: each is mangled against those used before it.
 abbrev pub Takes : List (List ℕ) → Wants → List (Named × List ℕ) → Type 0

@@ -1,5 +1,5 @@
 -- The text of the module of a circuit, of a form, and of a tree.
-use Rattle.std.specs.Prelude.{◌≡◌, ℕ, List, [], slice_get, Some, IsSome}
+use Rattle.std.specs.Prelude.{◌≡◌, ℕ, List, [], slice_get, Some, IsSome, unwrap_or, option_and_then}
 use Rattle.hc_bits.specs.Digits.{lines_text}
 use Rattle.hc_signal.specs.Graph.{Graph}
 use Rattle.hc_signal.specs.Member.{Has}
@@ -16,6 +16,10 @@ use Rattle.hc_verilog.specs.Templates.{module_lines}
 -- The module of a circuit in canonical numbering, under a title. `modules` names the module of each instance.
 abbrev pub IsModuleText : Graph → (ℕ → List ℕ) → List ℕ → List ℕ → Type 0
 IsModuleText g modules title text = (names : List (Named × List ℕ)) × Takes [] (wanted g) names × (text ≡ lines_text (module_lines (name_in names) g modules title))
+
+-- the name in the first row of an instance's entry; nothing where there is none
+unfoldable pub module_of : List (EntryId × List ℕ) → List EntryId → ℕ → List ℕ
+module_of rows kids i = unwrap_or (option_and_then (name_of_entry rows) (slice_get kids i)) []
 
 -- each entry has a row
 abbrev pub AreNamed : List (EntryId × List ℕ) → List EntryId → Type 0

@@ -27,6 +27,10 @@ range w = codes "[" ++ decimal (w - 1) ++ codes ":0]"
 unfoldable pub literal : ℕ → ℕ → List ℕ
 literal w v = decimal w ++ codes "'h" ++ hex_of w v
 
+-- a range of the bits of a signal
+unfoldable pub bit_range : ℕ → ℕ → List ℕ
+bit_range hi lo = codes "[" ++ decimal hi ++ codes ":" ++ decimal lo ++ codes "]"
+
 -- the sign between two operands
 unfoldable pub sign_of : Op2 → List ℕ
 sign_of Add = codes " + "
@@ -40,13 +44,13 @@ sign_of Eq = codes " == "
 sign_of Lt = codes " < "
 
 -- the texts with a comma and a blank between two
-unfoldable pub comma_list : List (List ℕ) → List ℕ
+abbrev pub comma_list : List (List ℕ) → List ℕ
 comma_list [] = []
 comma_list (x ∷ []) = x
 comma_list (x ∷ y ∷ xs) = x ++ codes ", " ++ comma_list (y ∷ xs)
 
 -- the lines, each but the last with a comma at its end
-unfoldable pub with_commas : List (List ℕ) → List (List ℕ)
+abbrev pub with_commas : List (List ℕ) → List (List ℕ)
 with_commas [] = []
 with_commas (x ∷ []) = x ∷ []
 with_commas (x ∷ y ∷ xs) = (x ++ codes ",") ∷ with_commas (y ∷ xs)
@@ -54,6 +58,13 @@ with_commas (x ∷ y ∷ xs) = (x ++ codes ",") ∷ with_commas (y ∷ xs)
 -- the line of an assignment
 unfoldable pub assign : List ℕ → List ℕ → List ℕ
 assign target value = codes "  assign " ++ target ++ codes " = " ++ value ++ codes ";"
+
+-- the declarations of a wire and of a register of w bits
+unfoldable pub wire_declaration : List ℕ → ℕ → List ℕ
+wire_declaration x w = codes "  wire " ++ range w ++ codes " " ++ x ++ codes ";"
+
+unfoldable pub register_declaration : List ℕ → ℕ → BitVector → List ℕ
+register_declaration x w init = codes "  reg " ++ range w ++ codes " " ++ x ++ codes " = " ++ literal w init.value ++ codes ";"
 
 -- lines that act at each edge of the clock
 unfoldable pub clocked : List (List ℕ) → List (List ℕ)
@@ -92,7 +103,7 @@ module _ (name : Named → List ℕ) where
   header g title =
       (codes "module " ++ title ++ codes " (")
       ∷ codes "  input clock,"
-      ∷ (map input_line (enumerate_from 0 g.ports.inputs) ++ with_commas (map output_line (zip g.outputs g.ports.outputs)) ++ codes ");" ∷ [])
+      ∷ (map input_line (enumerate_from 0 g.ports.inputs) ++ (with_commas (map output_line (zip g.outputs g.ports.outputs)) ++ codes ");" ∷ []))
 
   -- ---- declarations
 
@@ -100,23 +111,31 @@ module _ (name : Named → List ℕ) where
   declaration p = by p.1.node
     where
       by : Node → List ℕ
-      by (Reg next enable clear init) = codes "  reg " ++ range p.1.width ++ codes " " ++ name (vertex (node p.0)) ++ codes " = " ++ literal p.1.width init.value ++ codes ";"
-      by other = codes "  wire " ++ range p.1.width ++ codes " " ++ name (vertex (node p.0)) ++ codes ";"
+      by (Reg next enable clear init) = register_declaration (name (vertex (node p.0))) p.1.width init
+      by other = wire_declaration (name (vertex (node p.0))) p.1.width
 
   unfoldable pub memory_declaration : ℕ × Memory → List ℕ
   memory_declaration p = codes "  reg " ++ range p.1.width ++ codes " " ++ name (vertex (mem p.0)) ++ codes " [0:" ++ decimal (p.1.size - 1) ++ codes "];"
 
   -- ---- items
 
-  unfoldable pub binary_text : Op2 → NodeId → NodeId → List ℕ
-  binary_text Muls a b = codes "$signed(" ++ name_of_id a ++ codes ") * $signed(" ++ name_of_id b ++ codes ")"
-  binary_text op a b = name_of_id a ++ sign_of op ++ name_of_id b
+  -- an operand of an operator, which may be signed
+  unfoldable pub operand_text : Op2 → NodeId → List ℕ
+  operand_text Muls id = codes "$signed(" ++ name_of_id id ++ codes ")"
+  operand_text op id = name_of_id id
 
-  -- the cases of a mux from number k on, each but the last with its test; the selector has ws bits
-  unfoldable pub mux_text : ℕ → NodeId → ℕ → List NodeId → List ℕ
+  unfoldable pub binary_text : Op2 → NodeId → NodeId → List ℕ
+  binary_text op a b = operand_text op a ++ sign_of op ++ operand_text op b
+
+  -- a case of a mux, with the test of the selector, of ws bits, for its number
+  unfoldable pub tested_case : ℕ → NodeId → ℕ → NodeId → List ℕ
+  tested_case ws sel k c = name_of_id sel ++ codes " == " ++ literal ws k ++ codes " ? " ++ name_of_id c ++ codes " : "
+
+  -- the cases from number k on, each but the last with its test
+  abbrev pub mux_text : ℕ → NodeId → ℕ → List NodeId → List ℕ
   mux_text ws sel k [] = []
   mux_text ws sel k (c ∷ []) = name_of_id c
-  mux_text ws sel k (c ∷ d ∷ cs) = name_of_id sel ++ codes " == " ++ literal ws k ++ codes " ? " ++ name_of_id c ++ codes " : " ++ mux_text ws sel (suc k) (d ∷ cs)
+  mux_text ws sel k (c ∷ d ∷ cs) = tested_case ws sel k c ++ mux_text ws sel (suc k) (d ∷ cs)
 
   -- a word of a memory
   unfoldable pub word_text : ℕ → NodeId → List ℕ
@@ -128,11 +147,17 @@ module _ (name : Named → List ℕ) where
       if nat_le (2 ^ wa) size then word_text m addr
       else (name_of_id addr ++ codes " < " ++ literal wa size ++ codes " ? " ++ word_text m addr ++ codes " : " ++ literal w 0)
 
+  -- the test of an enable, where there is one
+  unfoldable pub guard : Option NodeId → List ℕ
+  guard None = []
+  guard (Some en) = codes "if (" ++ name_of_id en ++ codes ") "
+
   unfoldable pub register_lines : List ℕ → NodeId → Option NodeId → Option (NodeId × BitVector) → List (List ℕ)
-  register_lines x next None None = (codes "    " ++ x ++ codes " <= " ++ name_of_id next ++ codes ";") ∷ []
-  register_lines x next (Some en) None = (codes "    if (" ++ name_of_id en ++ codes ") " ++ x ++ codes " <= " ++ name_of_id next ++ codes ";") ∷ []
-  register_lines x next None (Some c) = (codes "    if (" ++ name_of_id c.0 ++ codes ") " ++ x ++ codes " <= " ++ literal c.1.width c.1.value ++ codes ";") ∷ (codes "    else " ++ x ++ codes " <= " ++ name_of_id next ++ codes ";") ∷ []
-  register_lines x next (Some en) (Some c) = (codes "    if (" ++ name_of_id c.0 ++ codes ") " ++ x ++ codes " <= " ++ literal c.1.width c.1.value ++ codes ";") ∷ (codes "    else if (" ++ name_of_id en ++ codes ") " ++ x ++ codes " <= " ++ name_of_id next ++ codes ";") ∷ []
+  register_lines x next enable None = (codes "    " ++ guard enable ++ x ++ codes " <= " ++ name_of_id next ++ codes ";") ∷ []
+  register_lines x next enable (Some clear) =
+      (codes "    if (" ++ name_of_id clear.0 ++ codes ") " ++ x ++ codes " <= " ++ literal clear.1.width clear.1.value ++ codes ";")
+      ∷ (codes "    else " ++ guard enable ++ x ++ codes " <= " ++ name_of_id next ++ codes ";")
+      ∷ []
 
   -- the arguments of an operation
   unfoldable pub pins : List NodeId → List ℕ
@@ -142,7 +167,7 @@ module _ (name : Named → List ℕ) where
 
   -- an operation on arguments of w bits, with the names of its cell and of its node
   unfoldable pub operation_line : OpKind → ℕ → List NodeId → List ℕ → List ℕ → List ℕ
-  operation_line kind w args o x = codes "  op_" ++ operation_name kind ++ codes " #(.W(" ++ decimal w ++ codes ")) " ++ o ++ codes " (" ++ pins args ++ codes ".y(" ++ x ++ codes "));"
+  operation_line kind w args o x = (codes "  op_" ++ operation_name kind ++ codes " #(.W(" ++ decimal w ++ codes ")) ") ++ (o ++ codes " (" ++ pins args ++ codes ".y(" ++ x ++ codes "));")
 
   -- the lines for a node of width w at place n
   unfoldable pub node_lines : Graph → ℕ → ℕ → Node → List (List ℕ)
@@ -154,7 +179,7 @@ module _ (name : Named → List ℕ) where
   node_lines g n w (Not a) = assign (name (vertex (node n))) (codes "~" ++ name_of_id a) ∷ []
   node_lines g n w (Mux sel cases) = assign (name (vertex (node n))) (mux_text (width_at g sel) sel 0 cases) ∷ []
   node_lines g n w (Cat parts) = assign (name (vertex (node n))) (codes "{" ++ comma_list (map name_of_id parts) ++ codes "}") ∷ []
-  node_lines g n w (Select a hi lo) = assign (name (vertex (node n))) (name_of_id a ++ codes "[" ++ decimal hi ++ codes ":" ++ decimal lo ++ codes "]") ∷ []
+  node_lines g n w (Select a hi lo) = assign (name (vertex (node n))) (name_of_id a ++ bit_range hi lo) ∷ []
   node_lines g n w (Reg next enable clear init) = clocked (register_lines (name (vertex (node n))) next enable clear)
   node_lines g n w (Read m addr) = assign (name (vertex (node n))) (read_text w (width_at g addr) (size_at g m.0) m.0 addr) ∷ []
   node_lines g n w (InstOut i port) = []
@@ -181,27 +206,33 @@ module _ (name : Named → List ℕ) where
   unfoldable pub connection_line : Port × NodeId → List ℕ
   connection_line c = codes "    ." ++ c.0.name ++ codes "(" ++ name_of_id c.1 ++ codes "),"
 
+  -- an output of an instance; `output` gives what each is connected to
+  unfoldable pub result_line : (ℕ → List ℕ) → ℕ × Port → List ℕ
+  result_line output q = codes "    ." ++ q.1.name ++ codes "(" ++ output q.0 ++ codes ")"
+
+  -- an instance of the module of this title
+  unfoldable pub instance_lines : List ℕ → (ℕ → List ℕ) → ℕ × Instance → List (List ℕ)
+  instance_lines title output p =
+      (codes "  " ++ title ++ codes " " ++ name (vertex (inst p.0)) ++ codes " (")
+      ∷ codes "    .clock(clock),"
+      ∷ (map connection_line (zip p.1.ports.inputs p.1.conns) ++ (with_commas (map (result_line output) (enumerate_from 0 p.1.ports.outputs)) ++ codes "  );" ∷ []))
+
+  -- the instances, where `modules` names the module of each, and `outputs` gives what its outputs are connected to
+  unfoldable pub all_instance_lines : (ℕ → List ℕ) → (ℕ → ℕ → List ℕ) → List (ℕ × Instance) → List (List ℕ)
+  all_instance_lines modules outputs instances = flat_map (λ (p : ℕ × Instance). instance_lines (modules p.0) (outputs p.0) p) instances
+
   -- the name of the node of an instance's output; nothing where it has no node
   unfoldable pub output_name : Graph → ℕ → ℕ → List ℕ
   output_name g i port = option_map_or (λ (p : ℕ × NodeRow). name (vertex (node p.0))) (find (λ (p : ℕ × NodeRow). is_output_of i port p.1.node) (numbered_nodes g)) []
 
-  unfoldable pub result_line : Graph → ℕ → ℕ × Port → List ℕ
-  result_line g i q = codes "    ." ++ q.1.name ++ codes "(" ++ output_name g i q.0 ++ codes ")"
-
-  -- an instance of a module of this title
-  unfoldable pub instance_lines : Graph → (ℕ → List ℕ) → ℕ × Instance → List (List ℕ)
-  instance_lines g modules p =
-      (codes "  " ++ modules p.0 ++ codes " " ++ name (vertex (inst p.0)) ++ codes " (")
-      ∷ codes "    .clock(clock),"
-      ∷ (map connection_line (zip p.1.ports.inputs p.1.conns) ++ with_commas (map (result_line g p.0) (enumerate_from 0 p.1.ports.outputs)) ++ codes "  );" ∷ [])
-
-  -- ---- the module; `modules` names the module of each instance
+  -- ---- the module
 
   unfoldable pub module_lines : Graph → (ℕ → List ℕ) → List ℕ → List (List ℕ)
   module_lines g modules title =
       header g title
-      ++ map declaration (inner_nodes g) ++ map memory_declaration (enumerate_from 0 g.memories)
-      ++ flat_map (item g) (numbered_nodes g)
-      ++ flat_map memory_lines (enumerate_from 0 g.memories)
-      ++ flat_map (instance_lines g modules) (enumerate_from 0 g.instances)
-      ++ codes "endmodule" ∷ []
+      ++ (map declaration (inner_nodes g)
+      ++ (map memory_declaration (enumerate_from 0 g.memories)
+      ++ (flat_map (item g) (numbered_nodes g)
+      ++ (flat_map memory_lines (enumerate_from 0 g.memories)
+      ++ (all_instance_lines modules (output_name g) (enumerate_from 0 g.instances)
+      ++ codes "endmodule" ∷ [])))))

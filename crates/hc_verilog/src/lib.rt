@@ -2,7 +2,11 @@
 #![tactic(auto)]
 
 mod form_text;
-mod lines;
+mod declarations;
+mod header;
+mod instances;
+mod items;
+mod memories;
 mod names;
 mod text;
 

@@ -1,0 +1,3 @@
+pub mod Mangling
+pub mod NameRows
+pub mod Numbers

@@ -1,0 +1,5 @@
+pub mod Texts
+pub mod Named
+pub mod Apart
+pub mod Wanted
+pub mod Slots

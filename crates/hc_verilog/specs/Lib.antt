@@ -1,0 +1,5 @@
+pub mod ModuleNames
+pub mod Templates
+pub mod NameTable
+pub mod Results
+pub mod ModuleText

@@ -1,0 +1,13 @@
+//! Verilog: the text of a module.
+#![tactic(auto)]
+
+mod form_text;
+mod declarations;
+mod header;
+mod instances;
+mod items;
+mod memories;
+mod names;
+mod text;
+
+pub use form_text::module_text;

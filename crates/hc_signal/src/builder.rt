@@ -1,4 +1,4 @@
-ghost use Rattle.std.specs.Prelude.{◌≡◌, ◌+◌, ◌≤◌, [], length};
+ghost use Rattle.std.specs.Prelude.{◌≡◌, ◌+◌, ◌≤◌, [], length, slice_get, Some};
 ghost use Rattle.hc_bits.specs.BitVector.{IsWidth};
 ghost use Rattle.hc_signal.specs.Graph.{Graph};
 ghost use Rattle.hc_signal.specs.Tree.{empty};
@@ -92,6 +92,14 @@ impl Builder {
         ensures range { IsWidth result }
     {
         self.nodes[id.0 as usize].width
+    }
+
+    /// The row of a node.
+    pub fn row(&self, id: NodeId) -> &NodeRow
+        requires { IsNode self.now id }
+        ensures { slice_get self.now.nodes id.0 ≡ Some result.now }
+    {
+        &self.nodes[id.0 as usize]
     }
 
     /// The weight of all rows so far: for each node 1 and its operands, for each memory 1 and for each of its write

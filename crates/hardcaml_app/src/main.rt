@@ -1,0 +1,27 @@
+//! The program: the standard streams, and the top call.
+#![tactic(auto)]
+
+use hc_cli::run_one;
+use hc_outside::{StdSink, StdSource};
+use std::env;
+use std::io;
+use std::process::ExitCode;
+
+/// The command line, without the program's own name.
+fn words(rt: &HostRuntime) -> io::Result<Vec<String>> {
+    let mut words = Vec::new(rt.alloc());
+    for word in env::args(rt)?.skip(1) {
+        words.push(word)?;
+    }
+    Ok(words)
+}
+
+fn main(rt: HostRuntime) -> ExitCode {
+    let Ok(words) = words(&rt) else {
+        return ExitCode::from(5);
+    };
+    let mut input = StdSource::new(rt.stdin());
+    let mut output = StdSink::new(rt.stdout());
+    let outcome = run_one(rt.alloc(), &words, &mut input, &mut output);
+    ExitCode::from(outcome.status)
+}

@@ -1,0 +1,6 @@
+pub mod Room
+pub mod Drawn
+pub mod Known
+pub mod LeafText
+pub mod Found
+pub mod DueLaws

@@ -1,0 +1,5 @@
+pub mod SmallGraph
+pub mod Gives
+pub mod Due
+pub mod Clauses
+pub mod Prepared

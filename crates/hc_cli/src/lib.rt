@@ -1,0 +1,10 @@
+//! The top call: words and an input in, a status and the bytes that are due out.
+#![tactic(auto)]
+
+mod circuit;
+mod module;
+mod run;
+#[cfg(test)]
+mod tests;
+
+pub use run::{Outcome, one_due, run_one};

@@ -1,15 +1,18 @@
 -- The table of names while the names are taken.
-use Rattle.std.proofs.Common.{◌≡◌, ℕ, zero, suc, ◌<◌, ◌==◌, Bool, true, false, List, [], ◌∷◌, ◌++◌, map, length, refl, sym, ap, subst, ◌∙◌, inl, inr, arith, append_assoc, append-nil, true≢false, eq-eqb, set}
+use Rattle.std.proofs.Common.{◌≡◌, ℕ, zero, suc, ◌<◌, ◌==◌, Bool, true, false, if◌then◌else◌, List, [], ◌∷◌, ◌++◌, map, filter, drop, length, refl, sym, ap, subst, ◌∙◌, inl, inr, arith, append_assoc, append-nil, true≢false, eq-eqb, set}
 use Rattle.std.specs.Prelude.{slice_get, slice_set, Option, Some, None, codes}
 use Rattle.std.proofs.lemmas.List.{map-append}
+use Rattle.std.specs.List.{enumerate_from}
+use Rattle.hc_signal.specs.declared.signal.Port.{Port}
+use Rattle.hc_signal.specs.declared.signal.NodeRow.{NodeRow}
 use Rattle.hc_signal.specs.Member.{Has}
 use Rattle.hc_signal.specs.Graph.{Graph, node, mem, inst}
 use Rattle.hc_signal.specs.Lawful.{IsLawful}
 use Rattle.hc_canon.specs.Numbering.{IsCanonical}
 use Rattle.hc_names.specs.Mangling.{IsMangled}
 use Rattle.hc_verilog.specs.declared.names.ModuleNames.{ModuleNames}
-use Rattle.hc_verilog.specs.ModuleNames.{Named, clock, vertex, cell, same_named, Wants, wanted, Takes, name_in}
-use Rattle.hc_verilog.specs.NameTable.{slot_name, name_at, name_by, HasRoom, IsFilled, IsNaming, from_inputs}
+use Rattle.hc_verilog.specs.ModuleNames.{Named, clock, vertex, cell, same_named, Wants, wanted, Takes, name_in, want_input, first_number, is_inner, inner_nodes}
+use Rattle.hc_verilog.specs.NameTable.{slot_name, name_at, name_by, HasRoom, IsFilled, IsNaming, IsEmptyTable, HasNames, AreMarks, is_unmarked, from_inputs, from_outputs}
 use Rattle.hc_verilog.proofs.Named.{Given, keys, names_of, choice, same_named_equal, same_named_itself, name_in_last, name_in_other, takes_keys, takes_more}
 use Rattle.hc_verilog.proofs.Apart.{AllDifferent, different_at}
 use Rattle.hc_verilog.proofs.Wanted.{wanted_different}
@@ -122,10 +125,6 @@ module _ (g : Graph) (lawful : IsLawful g) (canonical : IsCanonical g) (used use
 
 -- ---- the first name, and the end
 
--- no slot has a name
-abbrev pub IsEmptyTable : ModuleNames → Type 0
-IsEmptyTable names = (k : ℕ) → (name_at names.nodes.items k ≡ []) × (name_at names.memories.items k ≡ []) × (name_at names.instances.items k ≡ []) × (name_at names.cells.items k ≡ [])
-
 pub naming_start : (g : Graph) (names : ModuleNames) (name : List ℕ) → IsMangled (codes "clock") [] name → IsEmptyTable names → HasRoom g names → IsNaming g (name ∷ []) names (from_inputs g)
 unfolding name_by
 naming_start g names name mangled empty room = record {
@@ -144,10 +143,35 @@ naming_start g names name mangled empty room = record {
 
     named : (it : Named) → name_by names it ≡ name_in ((clock, name) ∷ []) it
     named clock = clock_is mangled
-    named (vertex (node k)) = (empty k).0
-    named (vertex (mem k)) = (empty k).1
-    named (vertex (inst k)) = (empty k).2
-    named (cell k) = (empty k).3
+    named (vertex (node k)) = empty.nodes k
+    named (vertex (mem k)) = empty.memories k
+    named (vertex (inst k)) = empty.instances k
+    named (cell k) = empty.cells k
 
-pub naming_end : (g : Graph) (used : List (List ℕ)) (names : ModuleNames) → IsNaming g used names [] → (given : List Given) × Takes [] (wanted g) given × (name_by names ≡ name_in given)
+pub naming_end : (g : Graph) (used : List (List ℕ)) (names : ModuleNames) → IsNaming g used names [] → HasNames g names
 naming_end g used names n = (n.given, subst (λ ws. Takes [] ws n.given) (sym (append-nil n.done) ∙ n.parts) n.takes, λ i it. n.named it i)
+
+-- a new slot is empty
+pub empty_more : (slots : List (Option (List ℕ))) → ((k : ℕ) → name_at slots k ≡ []) → (k : ℕ) → name_at (slots ++ None ∷ []) k ≡ []
+unfolding name_at
+empty_more [] empty zero = refl
+empty_more [] empty (suc k) = refl
+empty_more (s ∷ slots) empty zero = empty zero
+empty_more (s ∷ slots) empty (suc k) = empty_more slots (λ j. empty (suc j)) k
+
+pub empty_none : (k : ℕ) → name_at [] k ≡ []
+unfolding name_at
+empty_none k = refl
+
+pub naming_clock : (g : Graph) (names : ModuleNames) (used : List (List ℕ)) (ports : List Port) → used ≡ codes "clock" ∷ [] → ports ≡ g.ports.inputs → IsEmptyTable names → HasRoom g names → IsNaming g used names (map want_input (enumerate_from 0 ports) ++ from_outputs g)
+naming_clock g names used ports only all empty room =
+    subst (λ u. IsNaming g u names (map want_input (enumerate_from 0 ports) ++ from_outputs g)) (sym only)
+        (subst (λ ps. IsNaming g (codes "clock" ∷ []) names (map want_input (enumerate_from 0 ps) ++ from_outputs g)) (sym all)
+            (naming_start g names (codes "clock") (inl ((λ h. elim h [ ]), refl)) empty room))
+
+-- the nodes without a mark are the inner ones
+pub unmarked_inner : (g : Graph) (marks : List Bool) → AreMarks g marks → is_unmarked marks ≡ is_inner g
+unmarked_inner g marks right = λ i p. if right.right p.0 i then false else true
+
+pub inner_by_marks : (g : Graph) (marks : List Bool) (start : ℕ) (rows : List NodeRow) → AreMarks g marks → start ≡ first_number g → rows ≡ drop (first_number g) g.nodes → filter (is_unmarked marks) (enumerate_from start rows) ≡ inner_nodes g
+inner_by_marks g marks start rows right at all = λ i. filter (unmarked_inner g marks right i) (enumerate_from (at i) (all i))

@@ -160,3 +160,17 @@ module _ (name : Named → List ℕ) (ws : ℕ) (sel : NodeId) where
 -- more words than a size can have
 pub many_words : (w size : ℕ) → 32 ≤ w → size < 2 ^ 32 → false ≡ nat_le (2 ^ w) size
 many_words w size wide small = sym (lt-leb (2 ^ w) size (let more : 2 ^ 32 ≤ 2 ^ w = pow_mono wide in omega arith))
+
+-- ---- the ends of loops over pairs
+
+pub zip_none_left : {X Y : Type 0} (xs : List X) (ys : List Y) → length xs ≡ 0 → zip xs ys ≡ []
+zip_none_left [] ys e = refl
+zip_none_left (x ∷ xs) ys e = absurd (omega (arith, e))
+
+pub zip_none_right : {X Y : Type 0} (xs : List X) (ys : List Y) → length ys ≡ 0 → zip xs ys ≡ []
+zip_none_right [] ys e = refl
+zip_none_right (x ∷ xs) [] e = refl
+zip_none_right (x ∷ xs) (y ∷ ys) e = absurd (omega (arith, e))
+
+pub get_numbered : {X : Type 0} (xs : List X) (k : ℕ) (x : X) → slice_get xs k ≡ Some x → slice_get (enumerate_from 0 xs) k ≡ Some (k, x)
+get_numbered {X} xs k x e = get_enumerated 0 xs k x e ∙ ap {B = Option (ℕ × X)} (λ n. Some (n, x)) (let z : 0 + k ≡ k = omega arith in z)

@@ -170,6 +170,7 @@ fn push_instance(
 }
 
 /// The instances.
+#[tactic(auto, unfolding(crate::specs::Templates::all_instance_lines))]
 pub(crate) fn push_instances(
     out: &mut Vec<u8>,
     names: &ModuleNames,

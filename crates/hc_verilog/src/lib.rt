@@ -8,6 +8,8 @@ mod instances;
 mod items;
 mod memories;
 mod names;
+mod naming;
+mod tables;
 mod text;
 
 pub use form_text::module_text;

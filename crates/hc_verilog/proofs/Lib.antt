@@ -5,3 +5,4 @@ pub mod Wanted
 pub mod Slots
 pub mod Taking
 pub mod Parts
+pub mod Assembly

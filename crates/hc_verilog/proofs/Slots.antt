@@ -19,19 +19,19 @@ use Rattle.hc_verilog.proofs.Wanted.{wanted_different}
 
 -- ---- slots
 
-get_set_same : {X : Type 0} (xs : List X) (k : ℕ) (v : X) → k < length xs → slice_get (slice_set xs k v) k ≡ Some v
+pub get_set_same : {X : Type 0} (xs : List X) (k : ℕ) (v : X) → k < length xs → slice_get (slice_set xs k v) k ≡ Some v
 get_set_same [] k v h = absurd (omega (arith, h))
 get_set_same (x ∷ xs) zero v h = refl
 get_set_same (x ∷ xs) (suc k) v h = get_set_same xs k v (omega (arith, h))
 
-get_set_other : {X : Type 0} (xs : List X) (k j : ℕ) (v : X) → (k ≡ j → ⊥) → slice_get (slice_set xs k v) j ≡ slice_get xs j
+pub get_set_other : {X : Type 0} (xs : List X) (k j : ℕ) (v : X) → (k ≡ j → ⊥) → slice_get (slice_set xs k v) j ≡ slice_get xs j
 get_set_other [] k j v e = refl
 get_set_other (x ∷ xs) zero zero v e = absurd (e refl)
 get_set_other (x ∷ xs) zero (suc j) v e = refl
 get_set_other (x ∷ xs) (suc k) zero v e = refl
 get_set_other (x ∷ xs) (suc k) (suc j) v e = get_set_other xs k j v (λ same. e (ap suc same))
 
-length_set : {X : Type 0} (xs : List X) (k : ℕ) (v : X) → length (slice_set xs k v) ≡ length xs
+pub length_set : {X : Type 0} (xs : List X) (k : ℕ) (v : X) → length (slice_set xs k v) ≡ length xs
 length_set [] k v = refl
 length_set (x ∷ xs) zero v = refl
 length_set (x ∷ xs) (suc k) v = ap suc (length_set xs k v)
@@ -55,9 +55,10 @@ module _ (g : Graph) (lawful : IsLawful g) (canonical : IsCanonical g) (used use
     parts = append_assoc n.done ((it, want) ∷ []) rest ∙ n.parts;
     takes = takes_more [] n.done n.given it want name n.takes (subst (λ u. IsMangled want u name) n.used_is mangled);
     used_is = added ∙ ap (λ u. u ++ name ∷ []) n.used_is ∙ sym (map-append (λ (p : Given). p.1) n.given ((it, name) ∷ []));
-    named = λ other. elim (choice (same_named it other))
-      [ inl e ↦ subst (λ (o : Named). name_by names' o ≡ name_in (n.given ++ (it, name) ∷ []) o) (same_named_equal it other e) (same ∙ sym (name_in_last n.given it name new))
-      | inr e ↦ others other e ∙ n.named other ∙ sym (name_in_other n.given it other name e) ];
+    named = λ other. elim (choice (same_named it other)) [
+      | inl e ↦ subst (λ (o : Named). name_by names' o ≡ name_in (n.given ++ (it, name) ∷ []) o) (same_named_equal it other e) (same ∙ sym (name_in_last n.given it name new))
+      | inr e ↦ others other e ∙ n.named other ∙ sym (name_in_other n.given it other name e)
+    ];
     room = room;
   }
     where
@@ -72,7 +73,7 @@ module _ (g : Graph) (lawful : IsLawful g) (canonical : IsCanonical g) (used use
   unfolding name_by
   node_named k m i c lt f n =
       naming_more (vertex (node k)) f.given n f.mangled f.added (ap (λ s. name_at s k) f.set ∙ filled_same names.nodes.items k f.given lt) others
-          (record { nodes = ap length f.set ∙ length_set names.nodes.items k (Some f.given) ∙ n.room.nodes; memories = ap (λ v. length v.items) m ∙ n.room.memories; instances = ap (λ v. length v.items) i ∙ n.room.instances; cells = ap (λ v. length v.items) c ∙ n.room.cells })
+      (record { nodes = ap length f.set ∙ length_set names.nodes.items k (Some f.given) ∙ n.room.nodes; memories = ap (λ v. length v.items) m ∙ n.room.memories; instances = ap (λ v. length v.items) i ∙ n.room.instances; cells = ap (λ v. length v.items) c ∙ n.room.cells })
     where
       others : (other : Named) → same_named (vertex (node k)) other ≡ false → name_by names' other ≡ name_by names other
       others clock e = refl
@@ -86,7 +87,7 @@ module _ (g : Graph) (lawful : IsLawful g) (canonical : IsCanonical g) (used use
   unfolding name_by
   memory_named k m i c lt f n =
       naming_more (vertex (mem k)) f.given n f.mangled f.added (ap (λ s. name_at s k) f.set ∙ filled_same names.memories.items k f.given lt) others
-          (record { memories = ap length f.set ∙ length_set names.memories.items k (Some f.given) ∙ n.room.memories; nodes = ap (λ v. length v.items) m ∙ n.room.nodes; instances = ap (λ v. length v.items) i ∙ n.room.instances; cells = ap (λ v. length v.items) c ∙ n.room.cells })
+      (record { memories = ap length f.set ∙ length_set names.memories.items k (Some f.given) ∙ n.room.memories; nodes = ap (λ v. length v.items) m ∙ n.room.nodes; instances = ap (λ v. length v.items) i ∙ n.room.instances; cells = ap (λ v. length v.items) c ∙ n.room.cells })
     where
       others : (other : Named) → same_named (vertex (mem k)) other ≡ false → name_by names' other ≡ name_by names other
       others clock e = refl
@@ -100,7 +101,7 @@ module _ (g : Graph) (lawful : IsLawful g) (canonical : IsCanonical g) (used use
   unfolding name_by
   instance_named k m i c lt f n =
       naming_more (vertex (inst k)) f.given n f.mangled f.added (ap (λ s. name_at s k) f.set ∙ filled_same names.instances.items k f.given lt) others
-          (record { instances = ap length f.set ∙ length_set names.instances.items k (Some f.given) ∙ n.room.instances; nodes = ap (λ v. length v.items) m ∙ n.room.nodes; memories = ap (λ v. length v.items) i ∙ n.room.memories; cells = ap (λ v. length v.items) c ∙ n.room.cells })
+      (record { instances = ap length f.set ∙ length_set names.instances.items k (Some f.given) ∙ n.room.instances; nodes = ap (λ v. length v.items) m ∙ n.room.nodes; memories = ap (λ v. length v.items) i ∙ n.room.memories; cells = ap (λ v. length v.items) c ∙ n.room.cells })
     where
       others : (other : Named) → same_named (vertex (inst k)) other ≡ false → name_by names' other ≡ name_by names other
       others clock e = refl
@@ -114,7 +115,7 @@ module _ (g : Graph) (lawful : IsLawful g) (canonical : IsCanonical g) (used use
   unfolding name_by
   cell_named k m i c lt f n =
       naming_more (cell k) f.given n f.mangled f.added (ap (λ s. name_at s k) f.set ∙ filled_same names.cells.items k f.given lt) others
-          (record { cells = ap length f.set ∙ length_set names.cells.items k (Some f.given) ∙ n.room.cells; nodes = ap (λ v. length v.items) m ∙ n.room.nodes; memories = ap (λ v. length v.items) i ∙ n.room.memories; instances = ap (λ v. length v.items) c ∙ n.room.instances })
+      (record { cells = ap length f.set ∙ length_set names.cells.items k (Some f.given) ∙ n.room.cells; nodes = ap (λ v. length v.items) m ∙ n.room.nodes; memories = ap (λ v. length v.items) i ∙ n.room.memories; instances = ap (λ v. length v.items) c ∙ n.room.instances })
     where
       others : (other : Named) → same_named (cell k) other ≡ false → name_by names' other ≡ name_by names other
       others clock e = refl
@@ -166,8 +167,8 @@ empty_none k = refl
 pub naming_clock : (g : Graph) (names : ModuleNames) (used : List (List ℕ)) (ports : List Port) → used ≡ codes "clock" ∷ [] → ports ≡ g.ports.inputs → IsEmptyTable names → HasRoom g names → IsNaming g used names (map want_input (enumerate_from 0 ports) ++ from_outputs g)
 naming_clock g names used ports only all empty room =
     subst (λ u. IsNaming g u names (map want_input (enumerate_from 0 ports) ++ from_outputs g)) (sym only)
-        (subst (λ ps. IsNaming g (codes "clock" ∷ []) names (map want_input (enumerate_from 0 ps) ++ from_outputs g)) (sym all)
-            (naming_start g names (codes "clock") (inl ((λ h. elim h [ ]), refl)) empty room))
+    (subst (λ ps. IsNaming g (codes "clock" ∷ []) names (map want_input (enumerate_from 0 ps) ++ from_outputs g)) (sym all)
+    (naming_start g names (codes "clock") (inl ((λ h. elim h [ ]), refl)) empty room))
 
 -- the nodes without a mark are the inner ones
 pub unmarked_inner : (g : Graph) (marks : List Bool) → AreMarks g marks → is_unmarked marks ≡ is_inner g

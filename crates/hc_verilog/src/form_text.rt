@@ -10,7 +10,7 @@ use crate::header::push_header;
 use crate::instances::push_instances;
 use crate::items::push_items;
 use crate::memories::push_memory_blocks;
-use crate::tables::{first_place, numbered_rows, Tables};
+use crate::tables::{Tables, first_place, numbered_rows};
 use crate::text::push;
 use hc_canon::Form;
 use hc_fault::{Name, NoMemory};

@@ -1,8 +1,8 @@
 //! Verilog: the text of a module.
 #![tactic(auto)]
 
-mod form_text;
 mod declarations;
+mod form_text;
 mod header;
 mod instances;
 mod items;

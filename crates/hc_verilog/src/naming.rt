@@ -4,7 +4,7 @@ ghost use Rattle.std.specs.List.{enumerate_from, zip};
 ghost use Rattle.hc_verilog.specs.ModuleNames.{first_number, is_operation, is_operation_row, want_input, want_output, want_node, want_memory, want_instance, want_cell, want_cells};
 ghost use Rattle.hc_verilog.specs.NameTable.{name_at, HasRoom, IsEmptyTable, IsFilled, IsNaming, HasNames, AreMarks, is_unmarked, from_outputs, from_nodes, from_memories, from_instances};
 
-use crate::names::{is_marked, ModuleNames};
+use crate::names::{ModuleNames, is_marked};
 use hc_canon::Form;
 use hc_fault::{Name, NoMemory};
 use hc_names::Used;

@@ -4,7 +4,7 @@ ghost use Rattle.std.specs.List.{list_any};
 ghost use Rattle.hc_verilog.specs.ModuleNames.{first_number};
 ghost use Rattle.hc_verilog.specs.NameTable.{mark_at, AreMarks};
 
-use crate::instances::{results_of, Results};
+use crate::instances::{Results, results_of};
 use crate::names::ModuleNames;
 use crate::naming::take_names;
 use hc_canon::Form;
@@ -38,9 +38,9 @@ pub(crate) fn numbered_rows(form: &Form) -> &[NodeRow]
 }
 
 /// Marks these nodes.
-fn mark(marks: &mut [bool], ids: &[NodeId])
-    requires { (k : ℕ) → k < length ids.now → (slice_index_or ids.now k (record { 0 = 0 })).0 < length marks.old }
-    ensures { (n : ℕ) → mark_at marks.new n ≡ (mark_at marks.old n || list_any (λ (id : NodeId). id.0 == n) ids.now) }
+fn mark(marks: &mut Vec<bool>, ids: &[NodeId])
+    requires { (k : ℕ) → k < length ids.now → (slice_index_or ids.now k (record { 0 = 0 })).0 < length marks.old.items }
+    ensures { (n : ℕ) → mark_at marks.new.items n ≡ (mark_at marks.old.items n || list_any (λ (id : NodeId). id.0 == n) ids.now) }
 {
     for id in ids {
         marks[id.0 as usize] = true;
@@ -54,7 +54,7 @@ fn output_marks(alloc: Global, form: &Form) -> Result<Vec<bool>, NoMemory>
     form.canonical();
     let circuit = form.circuit();
     let mut marks = vec![in alloc; false; circuit.nodes().len()]?;
-    mark(marks.as_mut_slice(), circuit.outputs());
+    mark(&mut marks, circuit.outputs());
     Ok(marks)
 }
 

@@ -18,10 +18,10 @@ loop-k-preserved c =
     let lt : k < length ids = omega arith in
     let paired : length (zip ids ports) ≡ length ports = omega (arith, length-zip ids ports) in
     one_more _ _ _ _ _ _ c.in_ok-push_output.ensures
-        (line_cut (output_line (name_by c.args.names.now)) (zip ids ports) k (get_or ids k (record { 0 = 0 }), c.index-ports-k.result) _
-            (get_zipped ids ports k _ _ (slice_get-get_or ids k (record { 0 = 0 }) lt) (at_place _ _ _ c.loop-k-test.true c.index-ports-k.is))
-            (ap (nat_lt (k + 1)) (sym paired)))
-        c.loop-k.invariant
+    (line_cut (output_line (name_by c.args.names.now)) (zip ids ports) k (get_or ids k (record { 0 = 0 }), c.index-ports-k.result) _
+    (get_zipped ids ports k _ _ (slice_get-get_or ids k (record { 0 = 0 }) lt) (at_place _ _ _ c.loop-k-test.true c.index-ports-k.is))
+    (ap (nat_lt (k + 1)) (sym paired)))
+    c.loop-k.invariant
 
 pub returns : goal.returns
 returns c =

@@ -9,8 +9,9 @@ use Rattle.hc_verilog.proofs.instances.push_connections.Goals as goal
 pub returns : goal.returns
 returns c =
     finished _ _ _
-        (ap (λ l. lines_text (map (connection_line (name_by c.args.names.now)) l))
-            (elim c.in-None.ensures.steps
-            [ inl none ↦ zip_none_left (iter_rest c.loop-port.port-iterator.a) (iter_rest c.loop-port.port-iterator.b) none.1.0
-            | inr none ↦ zip_none_right (iter_rest c.loop-port.port-iterator.a) (iter_rest c.loop-port.port-iterator.b) none.1.0 ]))
-        c.loop-port.invariant
+    (ap (λ l. lines_text (map (connection_line (name_by c.args.names.now)) l))
+    (elim c.in-None.ensures.steps [
+      | inl none ↦ zip_none_left (iter_rest c.loop-port.port-iterator.a) (iter_rest c.loop-port.port-iterator.b) none.1.0
+      | inr none ↦ zip_none_right (iter_rest c.loop-port.port-iterator.a) (iter_rest c.loop-port.port-iterator.b) none.1.0
+    ]))
+    c.loop-port.invariant

@@ -15,10 +15,10 @@ loop-number-preserved c =
     let ports = c.args.ports.now in
     let k = c.loop-number.number in
     one_more _ _ _ _ _ _ c.in_ok-push_result.ensures
-        (line_cut (result_line (result_name (name_by c.args.names.now) c.args.results.now.entries c.args.instance)) (enumerate_from 0 ports) k (k, c.index-ports-number.result) _
-            (get_numbered ports k _ (at_place _ _ _ c.loop-number-test.true c.index-ports-number.is))
-            (ap (nat_lt (k + 1)) (sym (length-enumerate_from 0 ports))))
-        c.loop-number.invariant
+    (line_cut (result_line (result_name (name_by c.args.names.now) c.args.results.now.entries c.args.instance)) (enumerate_from 0 ports) k (k, c.index-ports-number.result) _
+    (get_numbered ports k _ (at_place _ _ _ c.loop-number-test.true c.index-ports-number.is))
+    (ap (nat_lt (k + 1)) (sym (length-enumerate_from 0 ports))))
+    c.loop-number.invariant
 
 pub returns : goal.returns
 returns c =

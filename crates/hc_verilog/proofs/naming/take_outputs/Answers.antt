@@ -30,10 +30,10 @@ loop-k-preserved c =
     let within : (get_or c.args.ids.now c.loop-k.k (record { 0 = 0 })).0 < length g.nodes = output_at g c.args.ids.now c.loop-k.k (record { 0 = 0 }) c.canonical.ensures.lawful c.requires.ids here in
     let lt : (get_or c.args.ids.now c.loop-k.k (record { 0 = 0 })).0 < length c.loop-k.names.nodes.items = omega (arith, within) in
     node_named g c.canonical.ensures.lawful c.canonical.ensures.canonical _ _ c.loop-k.names _ _ _ (get_or c.args.ids.now c.loop-k.k (record { 0 = 0 })).0 refl refl refl lt c.in_ok-fill.ensures
-        (subst (IsNaming g c.loop-k.used c.loop-k.names)
-            (pairs_cut want_output (zip c.args.ids.now c.args.ports.now) c.loop-k.k (get_or c.args.ids.now c.loop-k.k (record { 0 = 0 }), c.index-ports-k.result) (from_nodes g)
-                (get_zipped c.args.ids.now c.args.ports.now c.loop-k.k _ _ (slice_get-get_or c.args.ids.now c.loop-k.k (record { 0 = 0 }) here) (at_place _ _ _ c.loop-k-test.true c.index-ports-k.is)))
-            c.loop-k.invariant)
+    (subst (IsNaming g c.loop-k.used c.loop-k.names)
+    (pairs_cut want_output (zip c.args.ids.now c.args.ports.now) c.loop-k.k (get_or c.args.ids.now c.loop-k.k (record { 0 = 0 }), c.index-ports-k.result) (from_nodes g)
+    (get_zipped c.args.ids.now c.args.ports.now c.loop-k.k _ _ (slice_get-get_or c.args.ids.now c.loop-k.k (record { 0 = 0 }) here) (at_place _ _ _ c.loop-k-test.true c.index-ports-k.is)))
+    c.loop-k.invariant)
 
 pub returns : goal.returns
 returns c =

@@ -6,7 +6,7 @@ use Rattle.std.proofs.lemmas.Nat.{pow-add, shl-shr, leading_length, leading_le, 
 use Rattle.std.proofs.Math.Pow.{pow_mono}
 use Rattle.std.proofs.Math.Nat.{pow-suc, add-mul, mul_assoc, mul-le-mul_right}
 use Rattle.hc_bits.specs.Catalogue.{popcount, leading_zeros, reversed, bits_of}
-use Rattle.hc_bits.proofs.Lengths.{IsLength, leading_zeros-length, length_least, below_pow}
+use Rattle.hc_bits.proofs.Lengths.{IsLength, leading_zeros-length, length_least}
 
 half_below : (n w : ℕ) → n < 2 ^ suc w → n / 2 < 2 ^ w
 half_below n w below = omega (arith, pow-suc 2 w)

@@ -1,5 +1,5 @@
 -- Arithmetic modulo 2^128, shifts and masks, as numbers.
-use Rattle.std.proofs.Common.{◌≡◌, ℕ, suc, ◌+◌, ◌-◌, ◌*◌, ◌/◌, ◌%◌, ◌^◌, ◌≤◌, ◌<◌, arith, ap, sym, subst, ◌∙◌, refl}
+use Rattle.std.proofs.Common.{◌≡◌, ℕ, ◌+◌, ◌-◌, ◌*◌, ◌/◌, ◌%◌, ◌^◌, ◌≤◌, ◌<◌, arith, ap, subst, ◌∙◌}
 use Rattle.std.specs.Prelude.{bit_or}
 use Rattle.std.proofs.lemmas.Nat.{pow-add, pow_pos, mul-lt, mul-add-lt, shl_whole, or_shifted, shr_split, mod_below, div_below, mod-mul-add}
 use Rattle.std.proofs.lemmas.Nat.Bits.{ones_shr}

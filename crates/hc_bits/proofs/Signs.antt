@@ -2,7 +2,7 @@
 use Rattle.std.proofs.Common.{◌≡◌, ℕ, suc, ◌+◌, ◌-◌, ◌*◌, ◌/◌, ◌%◌, ◌^◌, ◌≤◌, ◌<◌, inl, inr, arith, ap, ap₂, ◌∙◌, refl}
 use Rattle.std.specs.Prelude.{◌⊎◌, ℤ, pos, negsuc, ◌*ℤ◌, nat_abs, unsigned_abs, FitsSigned}
 use Rattle.std.specs.Int.{w128, cast_signed, cast_unsigned, int_shr, int_rem_euclid}
-use Rattle.std.proofs.lemmas.Int.{ints, to_z-of_z, of_z-to_z, fits_signed_mul, fits_signed_from_abs, to_z_pos}
+use Rattle.std.proofs.lemmas.Int.{ints, to_z-of_z, of_z-to_z, fits_signed_mul, to_z_pos}
 use Rattle.std.proofs.lemmas.Bool.{cases_lt}
 use Rattle.std.proofs.lemmas.Nat.{pow_pos, pow-add, pow_below, shl_whole, shl_below, mod_below, div-mul-add}
 use Rattle.std.proofs.Math.Nat.{pow-suc, add-mul, mul_comm, mul-le-mul_right}

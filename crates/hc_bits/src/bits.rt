@@ -56,7 +56,7 @@ impl Bits {
         }
     }
 
-    /// As many of the lowest bits of a value as the width says.
+    /// The `width` lowest bits of a value.
     #[tactic(auto, using(std::proofs::lemmas::Nat::and_mask))]
     fn lowest(width: u32, value: u128) -> Bits
         requires { IsWidth width }
@@ -78,7 +78,7 @@ impl Bits {
         }
     }
 
-    /// A number of bits among those of a width, in the bits that the width itself needs.
+    /// A count of at most `width`, in as many bits as the number `width` needs.
     #[tactic(auto, using(crate::proofs::Counts::count_width))]
     fn count(width: u32, number: u32) -> Bits
         requires width { IsWidth width }
@@ -207,7 +207,7 @@ impl Bits {
         (self.value << unused).cast_signed() >> unused
     }
 
-    /// Each bit turned over.
+    /// Each bit inverted.
     #[tactic(auto, using(crate::proofs::Masks::low_of_not))]
     pub fn not(self) -> Bits
         ensures { result ≡ not_ self }
@@ -215,7 +215,7 @@ impl Bits {
         Bits::lowest(self.width, !self.value)
     }
 
-    /// The bits from `hi` down to `lo`, both included; the lowest bit is number 0.
+    /// The bits from `hi` down to `lo`, both included, counted from 0 at the lowest.
     pub fn select(self, hi: u32, lo: u32) -> Bits
         requires order { lo ≤ hi }
         requires within { hi < self.width }
@@ -236,7 +236,8 @@ impl Bits {
         }
     }
 
-    /// The case at the place that the value says, and the last one where it is past the end.
+    /// The case at the place that the value gives, counted from 0, and the last case where the
+    /// value is past the end. There is at least one.
     pub fn mux(self, cases: &[Bits]) -> Bits
         requires { 1 ≤ length cases.now }
         ensures value { result ≡ mux self cases.now }
@@ -247,7 +248,7 @@ impl Bits {
         cases[place]
     }
 
-    /// The number of ones, in the bits that the width itself needs.
+    /// The number of ones, in as many bits as the width needs as a number.
     #[tactic(auto, using(crate::proofs::Counts::popcount_is, crate::proofs::Counts::ones_within))]
     pub fn popcount(self) -> Bits
         ensures { result ≡ operation Popcount (self ∷ []) }
@@ -255,8 +256,8 @@ impl Bits {
         Bits::count(self.width, self.value.count_ones())
     }
 
-    /// The number of zeros above the highest one, in the bits that the width itself needs; the
-    /// width for 0.
+    /// The number of zeros above the highest one, and the width for 0, in as many bits as the
+    /// width needs as a number.
     #[tactic(auto, using(crate::proofs::Counts::leading_zeros_is, crate::proofs::Counts::unused_zeros, crate::proofs::Counts::zeros_within))]
     pub fn leading_zeros(self) -> Bits
         ensures { result ≡ operation Clz (self ∷ []) }

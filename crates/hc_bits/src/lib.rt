@@ -3,6 +3,8 @@
 
 mod bits;
 mod kind;
+#[cfg(test)]
+mod tests;
 
 pub use bits::Bits;
 pub use kind::{OpKind, bits_of};

@@ -1,7 +1,7 @@
-use Rattle.std.proofs.Common.{ℕ, ◌-◌, ◌≤◌, arith, rules}
+use Rattle.std.proofs.Common.{◌-◌, ◌≤◌, arith, rules}
 use Rattle.std.proofs.Math.Pow.{pow_mono}
 use Rattle.std.specs.Int.Count.{count_leading_zeros}
-use Rattle.hc_bits.proofs.Lengths.{IsLength, bits_of-length, length_least, length_from_zeros}
+use Rattle.hc_bits.proofs.Lengths.{bits_of-length, length_least, length_from_zeros}
 use Rattle.hc_bits.proofs.kind.bits_of.Goals as goal
 
 pub returns-clause-value : goal.returns-clause-value

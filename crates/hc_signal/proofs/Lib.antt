@@ -1,0 +1,12 @@
+pub mod Places
+pub mod Grows
+pub mod Added
+pub mod AddedPorts
+pub mod Follows
+pub mod Changed
+pub mod Drives
+pub mod AddedInstances
+pub mod AddedMemories
+pub mod ChangedMemories
+pub mod ChangedInstances
+pub mod LabelledNodes

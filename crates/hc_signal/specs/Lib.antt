@@ -8,3 +8,6 @@ pub mod Weight
 pub mod Checked
 pub mod Occurrences
 pub mod FlatGraph
+pub mod Rules
+pub mod Builds
+pub mod Kept

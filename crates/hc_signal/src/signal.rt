@@ -6,21 +6,26 @@ use smallvec::SmallVec;
 use std::alloc::Global;
 use std::marker::Model;
 
-#[derive(Clone, Copy, Default, PartialEq, Eq)]
+/// The place of a node in the list of its circuit.
+#[derive(Clone, Copy, Debug, Default, PartialEq, Eq)]
 pub struct NodeId(pub u32);
 
-#[derive(Clone, Copy, PartialEq, Eq)]
+/// The place of a memory in the list of its circuit.
+#[derive(Clone, Copy, Debug, PartialEq, Eq)]
 pub struct MemId(pub u32);
 
-#[derive(Clone, Copy, PartialEq, Eq)]
+/// The place of an instance in the list of its circuit.
+#[derive(Clone, Copy, Debug, PartialEq, Eq)]
 pub struct InstId(pub u32);
 
+/// A port, with its width in bits.
 #[derive(Drop)]
 pub struct Port {
     pub name: Name,
     pub width: u32,
 }
 
+/// The ports of a circuit, in order.
 #[derive(Drop)]
 pub struct Ports {
     pub inputs: ItemList<Port>,
@@ -43,6 +48,7 @@ impl Model for Ids {
 }
 
 impl Ids {
+    /// The list of these nodes.
     pub fn from_slice(alloc: Global, ids: &[NodeId]) -> Result<Ids, NoMemory>
         ensures { IfOk result (λ made. made ≡ ids.now) }
     {
@@ -52,6 +58,7 @@ impl Ids {
         }
     }
 
+    /// Its nodes.
     pub fn as_slice(&self) -> &[NodeId]
         ensures { result.now ≡ self.now }
     {
@@ -59,7 +66,8 @@ impl Ids {
     }
 }
 
-/// The operators of two operands.
+/// The operators of two operands. `Muls` takes its operands as two's complement numbers; `Lt` compares unsigned
+/// numbers.
 #[derive(Clone, Copy, PartialEq, Eq)]
 pub enum Op2 {
     Add,
@@ -73,11 +81,14 @@ pub enum Op2 {
     Lt,
 }
 
+/// What a node is.
 #[derive(Drop)]
 pub enum Node {
+    /// The input port at a place.
     Input {
         port: u32,
     },
+    /// The value of its driver.
     Wire {
         driver: Option<NodeId>,
     },
@@ -89,41 +100,51 @@ pub enum Node {
         a: NodeId,
         b: NodeId,
     },
+    /// The complement.
     Not {
         a: NodeId,
     },
+    /// The case at the number of the selector, the last one past the end.
     Mux {
         sel: NodeId,
         cases: Ids,
     },
+    /// The parts side by side, the most significant first.
     Cat {
         parts: Ids,
     },
+    /// The bits from `hi` down to `lo`.
     Select {
         a: NodeId,
         hi: u32,
         lo: u32,
     },
+    /// A register: at each clock edge it takes the value of `clear` where the node of `clear` is 1, else that of `next`
+    /// where `enable` is 1 or absent. It begins as `init`.
     Reg {
         next: NodeId,
         enable: Option<NodeId>,
         clear: Option<(NodeId, Bits)>,
         init: Bits,
     },
+    /// The word of a memory at an address, 0 past its end.
     Read {
         mem: MemId,
         addr: NodeId,
     },
+    /// The output of an instance at a place.
     InstOut {
         inst: InstId,
         port: u32,
     },
+    /// An operation of the catalogue.
     Op {
         kind: OpKind,
         args: Ids,
     },
 }
 
+/// A node with its width in bits.
 #[derive(Drop)]
 pub struct NodeRow {
     pub width: u32,
@@ -131,6 +152,7 @@ pub struct NodeRow {
     pub label: Option<Name>,
 }
 
+/// At each clock edge the word at `addr` becomes `value` where `enable` is 1.
 #[derive(Drop)]
 pub struct WritePort {
     pub enable: NodeId,
@@ -138,6 +160,7 @@ pub struct WritePort {
     pub value: NodeId,
 }
 
+/// A memory of `size` words of `width` bits. Its write ports act in order.
 #[derive(Drop)]
 pub struct Memory {
     pub size: u32,
@@ -146,6 +169,7 @@ pub struct Memory {
     pub label: Option<Name>,
 }
 
+/// An instance of a circuit with these ports: one connection for each input, in order.
 #[derive(Drop)]
 pub struct Instance {
     pub ports: Ports,

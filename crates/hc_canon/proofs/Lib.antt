@@ -1,0 +1,12 @@
+pub mod Renumbered
+pub mod Isomorphisms
+pub mod Canonical
+pub mod Finite
+pub mod LaidOut
+pub mod Counting
+pub mod Fits
+pub mod Transport
+pub mod Carried
+pub mod Decided
+pub mod Exists
+pub mod Picks

@@ -27,3 +27,8 @@ pub record IsCanonOf (g : Graph) (ids : List EntryId) (f : FormView) : Type 0 wh
   pub back : Renumbering
   pub isomorphism : IsIsomorphism to back g f.circuit
   pub kids : (i : ℕ) → Reached g (inst i) → slice_get f.kids (to.inst i) ≡ slice_get ids i
+
+-- The circuits are isomorphic, and paired instances have the same entry.
+abbrev pub AreIsomorphic : Graph → List EntryId → Graph → List EntryId → Type 0
+AreIsomorphic g ids h others =
+    (to : Renumbering) × (back : Renumbering) × IsIsomorphism to back g h × ((i : ℕ) → Reached g (inst i) → slice_get others (to.inst i) ≡ slice_get ids i)

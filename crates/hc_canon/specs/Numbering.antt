@@ -1,22 +1,11 @@
--- The depth-first walk from the outputs, and the numbering that follows it.
+-- The numbering that follows the depth-first walk from the outputs.
 use Rattle.std.specs.Prelude.{◌≡◌, ℕ, zero, suc, ◌-◌, ◌≤◌, List, [], ◌∷◌, ◌++◌, length, slice_get, Option, Some, None}
-use Rattle.hc_signal.specs.Member.{Has}
 use Rattle.hc_signal.specs.declared.signal.NodeRow.{NodeRow}
 use Rattle.hc_signal.specs.declared.signal.Port.{Port}
 use Rattle.hc_signal.specs.declared.signal.Node.{Node}
 use Rattle.hc_signal.specs.declared.signal.Node.TheVariants.{Input}
-use Rattle.hc_signal.specs.Graph.{Graph, Vertex, node, mem, inst, fanin, nodes_of}
-
--- From the vertices that were met and those that wait, the walk ends with these vertices in the order in
--- which they were first met.
-pub data DepthFirst (g : Graph) : (met waiting end : List Vertex) → Type 0 where
-  over : {met : List Vertex} → DepthFirst g met [] met
-  again : {met waiting end : List Vertex} {p : Vertex} → Has met p → DepthFirst g met waiting end → DepthFirst g met (p ∷ waiting) end
-  new : {met waiting end : List Vertex} {p : Vertex} → ¬ Has met p → DepthFirst g (met ++ p ∷ []) (fanin g p ++ waiting) end → DepthFirst g met (p ∷ waiting) end
-
--- the walk from the outputs
-abbrev pub NumbersTo : Graph → List Vertex → Type 0
-NumbersTo g end = DepthFirst g [] (nodes_of g.outputs) end
+use Rattle.hc_signal.specs.Graph.{Graph, Vertex, node, mem, inst}
+use Rattle.hc_walk.specs.DepthFirst.{NumbersTo}
 
 -- what takes a number: a node that is no input
 abbrev pub counted : Option NodeRow → ℕ → List ℕ

@@ -2,7 +2,22 @@
 #![tactic(auto)]
 
 mod canon_form;
+mod equal;
 mod form;
+mod hashing;
+mod laws;
+mod layout;
+mod numbers;
+mod renumber;
 
 pub use canon_form::canon;
+pub use equal::same;
 pub use form::{EntryId, Form};
+pub use hashing::hash;
+pub use laws::{
+    canonical_forms_are_single, canonical_forms_exist, equal_forms_have_equal_hashes,
+    forms_decide_isomorphism, same_is_an_equivalence,
+};
+
+#[cfg(test)]
+mod tests;

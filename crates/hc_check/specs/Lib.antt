@@ -1,0 +1,2 @@
+pub mod CheckStop
+pub mod Undriven

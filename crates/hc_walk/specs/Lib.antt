@@ -1,0 +1,3 @@
+pub mod VertexId
+pub mod DepthFirst
+pub mod Walking

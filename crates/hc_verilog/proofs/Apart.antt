@@ -34,9 +34,10 @@ kept p y xs x e rest (later h) = let r : Has xs x × (p x ≡ true) = rest h in 
 pub has_filter : {X : Type 0} (p : X → Bool) (xs : List X) (x : X) → Has (filter p xs) x → Has xs x × (p x ≡ true)
 has_filter p [] x h = elim h [ ]
 has_filter p (y ∷ xs) x h =
-    elim (choice (p y))
-    [ inl e ↦ kept p y xs x e (has_filter p xs x) (rw e at h)
-    | inr e ↦ let r : Has xs x × (p x ≡ true) = has_filter p xs x (rw e at h) in (later r.0, r.1) ]
+    elim (choice (p y)) [
+      | inl e ↦ kept p y xs x e (has_filter p xs x) (rw e at h)
+      | inr e ↦ let r : Has xs x × (p x ≡ true) = has_filter p xs x (rw e at h) in (later r.0, r.1)
+    ]
 
 -- ---- pairs with rising numbers
 
@@ -56,9 +57,10 @@ pub rising_filter : {X : Type 0} (q : ℕ × X → Bool) (a : ℕ) (ps : List (�
 rising_filter q a [] r = tt
 rising_filter q a (p ∷ ps) r =
     let rest : IsRising (p.0 + 1) (filter q ps) = rising_filter q (p.0 + 1) ps r.1 in
-    elim (choice (q p))
-    [ inl e ↦ rw e (r.0, rest)
-    | inr e ↦ rw e (rising_from a (p.0 + 1) (filter q ps) (omega (arith, r.0)) rest) ]
+    elim (choice (q p)) [
+      | inl e ↦ rw e (r.0, rest)
+      | inr e ↦ rw e (rising_from a (p.0 + 1) (filter q ps) (omega (arith, r.0)) rest)
+    ]
 
 module _ {X : Type 0} (F : ℕ × X → Given) (h : ℕ → Named) (each : (p : ℕ × X) → (F p).0 ≡ h p.0) where
   pub rising_key : (a : ℕ) (ps : List (ℕ × X)) (z : Named) → IsRising a ps → Has (keys (map F ps)) z → (n : ℕ) × (a ≤ n) × (z ≡ h n)
@@ -68,10 +70,11 @@ module _ {X : Type 0} (F : ℕ × X → Given) (h : ℕ → Named) (each : (p : 
 
   pub rising_different : ((m n : ℕ) → h m ≡ h n → m ≡ n) → (a : ℕ) (ps : List (ℕ × X)) → IsRising a ps → AllDifferent (keys (map F ps))
   rising_different own a [] r = tt
-  rising_different own a (p ∷ ps) r =
-      (λ k. let more : (n : ℕ) × (p.0 + 1 ≤ n) × ((F p).0 ≡ h n) = rising_key (p.0 + 1) ps (F p).0 r.1 k in
-            let e : p.0 ≡ more.0 = own p.0 more.0 (sym (each p) ∙ more.2) in omega (arith, more.1),
-       rising_different own (p.0 + 1) ps r.1)
+  rising_different own a (p ∷ ps) r = (
+    λ k. let more : (n : ℕ) × (p.0 + 1 ≤ n) × ((F p).0 ≡ h n) = rising_key (p.0 + 1) ps (F p).0 r.1 k in
+        let e : p.0 ≡ more.0 = own p.0 more.0 (sym (each p) ∙ more.2) in omega (arith, more.1),
+    rising_different own (p.0 + 1) ps r.1,
+  )
 
 -- ---- where a key comes from
 

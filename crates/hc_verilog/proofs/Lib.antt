@@ -3,3 +3,6 @@ pub mod Named
 pub mod Apart
 pub mod Wanted
 pub mod Slots
+pub mod Taking
+pub mod Parts
+pub mod Assembly

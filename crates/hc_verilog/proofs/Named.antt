@@ -62,9 +62,10 @@ choice false = inr refl
 pub name_in_last : (gs : List Given) (it : Named) (name : List ℕ) → ¬ Has (keys gs) it → name_in (gs ++ (it, name) ∷ []) it ≡ name
 name_in_last [] it name new = rw (same_named_itself it) refl
 name_in_last (g ∷ gs) it name new =
-    elim (choice (same_named g.0 it))
-    [ inl e ↦ absurd (new (subst (λ k. Has (g.0 ∷ keys gs) k) (same_named_equal g.0 it e) first))
-    | inr e ↦ rw e (name_in_last gs it name (λ h. new (later h))) ]
+    elim (choice (same_named g.0 it)) [
+      | inl e ↦ absurd (new (subst (λ k. Has (g.0 ∷ keys gs) k) (same_named_equal g.0 it e) first))
+      | inr e ↦ rw e (name_in_last gs it name (λ h. new (later h)))
+    ]
 
 -- the others keep their names
 pub name_in_other : (gs : List Given) (it other : Named) (name : List ℕ) → same_named it other ≡ false → name_in (gs ++ (it, name) ∷ []) other ≡ name_in gs other

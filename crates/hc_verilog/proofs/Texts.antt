@@ -44,6 +44,13 @@ module _ {T E : Type 0} (r : Result T E) (old new : List ℕ) where
   written_four a b c p q s t all parts first second third last =
       written_three b c (p ++ q) s t all (parts ∙ sym (append_assoc p q (s ++ t))) (second ∙ ap (λ l. l ++ q) first ∙ append_assoc old p q) third last
 
+  pub written_seven : (a b c d e f p q s t u v w all : List ℕ) → all ≡ p ++ (q ++ (s ++ (t ++ (u ++ (v ++ w))))) → a ≡ old ++ p → b ≡ a ++ q → c ≡ b ++ s → d ≡ c ++ t → e ≡ d ++ u → f ≡ e ++ v → OnOk r (new ≡ f ++ w) → OnOk r (new ≡ old ++ all)
+  written_seven a b c d e f p q s t u v w all parts first second third fourth fifth sixth last =
+      written_four d e f (p ++ (q ++ (s ++ t))) u v w all
+      (parts ∙ sym (append_assoc p (q ++ (s ++ t)) (u ++ (v ++ w)) ∙ ap (λ l. p ++ l) (append_assoc q (s ++ t) (u ++ (v ++ w)) ∙ ap (λ l. q ++ l) (append_assoc s t (u ++ (v ++ w))))))
+      (fourth ∙ ap (λ l. l ++ t) third ∙ append_assoc b s t ∙ ap (λ l. l ++ (s ++ t)) second ∙ append_assoc a q (s ++ t) ∙ ap (λ l. l ++ (q ++ (s ++ t))) first ∙ append_assoc old p (q ++ (s ++ t)))
+      fifth sixth last
+
 -- ---- loops that write the elements of a list
 
 -- what is left of a list at a place
@@ -109,9 +116,10 @@ module _ {X : Type 0} (f : ℕ × X → List ℕ) (first k : ℕ) (xs : List X) 
 
 left_over : (a b : ℕ) → nat_lt a b ≡ nat_lt 0 (b - a)
 left_over a b =
-    elim (choice (nat_lt a b))
-    [ inl e ↦ e ∙ sym (lt-ltb 0 (b - a) (let lt : a < b = ltb-true a b e in omega arith))
-    | inr e ↦ e ∙ sym (le-ltb 0 (b - a) (let le : b ≤ a = ltb-false a b e in omega arith)) ]
+    elim (choice (nat_lt a b)) [
+      | inl e ↦ e ∙ sym (lt-ltb 0 (b - a) (let lt : a < b = ltb-true a b e in omega arith))
+      | inr e ↦ e ∙ sym (le-ltb 0 (b - a) (let le : b ≤ a = ltb-false a b e in omega arith))
+    ]
 
 -- more elements follow
 pub more_left : {X Y : Type 0} (f : X → Y) (k : ℕ) (xs : List X) → nat_lt 0 (length (map f (drop (k + 1) xs))) ≡ nat_lt (k + 1) (length xs)
@@ -160,3 +168,17 @@ module _ (name : Named → List ℕ) (ws : ℕ) (sel : NodeId) where
 -- more words than a size can have
 pub many_words : (w size : ℕ) → 32 ≤ w → size < 2 ^ 32 → false ≡ nat_le (2 ^ w) size
 many_words w size wide small = sym (lt-leb (2 ^ w) size (let more : 2 ^ 32 ≤ 2 ^ w = pow_mono wide in omega arith))
+
+-- ---- the ends of loops over pairs
+
+pub zip_none_left : {X Y : Type 0} (xs : List X) (ys : List Y) → length xs ≡ 0 → zip xs ys ≡ []
+zip_none_left [] ys e = refl
+zip_none_left (x ∷ xs) ys e = absurd (omega (arith, e))
+
+pub zip_none_right : {X Y : Type 0} (xs : List X) (ys : List Y) → length ys ≡ 0 → zip xs ys ≡ []
+zip_none_right [] ys e = refl
+zip_none_right (x ∷ xs) [] e = refl
+zip_none_right (x ∷ xs) (y ∷ ys) e = absurd (omega (arith, e))
+
+pub get_numbered : {X : Type 0} (xs : List X) (k : ℕ) (x : X) → slice_get xs k ≡ Some x → slice_get (enumerate_from 0 xs) k ≡ Some (k, x)
+get_numbered {X} xs k x e = get_enumerated 0 xs k x e ∙ ap {B = Option (ℕ × X)} (λ n. Some (n, x)) (let z : 0 + k ≡ k = omega arith in z)

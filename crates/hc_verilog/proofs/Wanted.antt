@@ -68,12 +68,13 @@ outputs_different : (ids : List NodeId) (ports : List Port) → ((i j : ℕ) (id
 unfolding output_key id_of
 outputs_different [] ports own = tt
 outputs_different (id ∷ ids) [] own = tt
-outputs_different (id ∷ ids) (p ∷ ports) own =
-    (λ h. let r : (i : NodeId) × Has ids i × (vertex (node id.0) ≡ vertex (node i.0)) = output_key ids ports (vertex (node id.0)) h in
-          let at : (k : ℕ) × (slice_get ids k ≡ Some r.0) = place_of ids r.0 r.1 in
-          let same : r.0 ≡ id = sym (ap id_of r.2) in
-          let e : 0 ≡ suc at.0 = own 0 (suc at.0) id refl (at.1 ∙ ap Some same) in omega arith,
-     outputs_different ids ports (λ i j x a b. let e : suc i ≡ suc j = own (suc i) (suc j) x a b in omega arith))
+outputs_different (id ∷ ids) (p ∷ ports) own = (
+  λ h. let r : (i : NodeId) × Has ids i × (vertex (node id.0) ≡ vertex (node i.0)) = output_key ids ports (vertex (node id.0)) h in
+      let at : (k : ℕ) × (slice_get ids k ≡ Some r.0) = place_of ids r.0 r.1 in
+      let same : r.0 ≡ id = sym (ap id_of r.2) in
+      let e : 0 ≡ suc at.0 = own 0 (suc at.0) id refl (at.1 ∙ ap Some same) in omega arith,
+  outputs_different ids ports (λ i j x a b. let e : suc i ≡ suc j = own (suc i) (suc j) x a b in omega arith),
+)
 
 marked : (ids : List NodeId) (id : NodeId) → Has ids id → list_any (λ (i : NodeId). i.0 == id.0) ids ≡ true
 marked [] id h = elim h [ ]
@@ -95,13 +96,14 @@ no_wire k d e = cc
 output_late : (g : Graph) → IsLawful g → IsCanonical g → (id : NodeId) → Has g.outputs id → first_number g ≤ id.0
 unfolding node_in
 output_late g lawful canonical id h =
-    elim (choice (nat_lt id.0 (first_number g)))
-    [ inl e ↦
-        (let lt : id.0 < length g.ports.inputs = ltb-true id.0 (first_number g) e in
-        let port : slice_get g.ports.inputs id.0 ≡ Some (get_or g.ports.inputs id.0 (record { name = []; width = 0 })) = slice_get-get_or g.ports.inputs id.0 (record { name = []; width = 0 }) lt in
-        let row : slice_get g.nodes id.0 ≡ Some (input_row (get_or g.ports.inputs id.0 (record { name = []; width = 0 })) id.0) = canonical.inputs id.0 (get_or g.ports.inputs id.0 (record { name = []; width = 0 })) port in
-        absurd (no_wire id.0 (lawful.wires id h).1 (ap node_in (sym row ∙ (lawful.wires id h).2) ∙ (lawful.wires id h).3)))
-    | inr e ↦ not_below id.0 (first_number g) e ]
+    elim (choice (nat_lt id.0 (first_number g))) [
+      | inl e ↦
+          (let lt : id.0 < length g.ports.inputs = ltb-true id.0 (first_number g) e in
+          let port : slice_get g.ports.inputs id.0 ≡ Some (get_or g.ports.inputs id.0 (record { name = []; width = 0 })) = slice_get-get_or g.ports.inputs id.0 (record { name = []; width = 0 }) lt in
+          let row : slice_get g.nodes id.0 ≡ Some (input_row (get_or g.ports.inputs id.0 (record { name = []; width = 0 })) id.0) = canonical.inputs id.0 (get_or g.ports.inputs id.0 (record { name = []; width = 0 })) port in
+          absurd (no_wire id.0 (lawful.wires id h).1 (ap node_in (sym row ∙ (lawful.wires id h).2) ∙ (lawful.wires id h).3)))
+      | inr e ↦ not_below id.0 (first_number g) e
+    ]
   where
     not_below : (m n : ℕ) → nat_lt m n ≡ false → n ≤ m
     not_below m n e = grind (arith, ltb-false)
@@ -113,9 +115,10 @@ kind_of_input g n lt = rw (lt-ltb n (first_number g) lt) refl
 kind_of_late : (g : Graph) (n : ℕ) → first_number g ≤ n → kind g (vertex (node n)) ≡ (if is_output g n then 2 else 3)
 unfolding kind
 kind_of_late g n le =
-    elim (choice (nat_lt n (first_number g)))
-    [ inl e ↦ absurd (let lt : n < first_number g = ltb-true n (first_number g) e in omega arith)
-    | inr e ↦ rw e refl ]
+    elim (choice (nat_lt n (first_number g))) [
+      | inl e ↦ absurd (let lt : n < first_number g = ltb-true n (first_number g) e in omega arith)
+      | inr e ↦ rw e refl
+    ]
 
 own_node : (m n : ℕ) → vertex (node m) ≡ vertex (node n) → m ≡ n
 own_node m n e = cc

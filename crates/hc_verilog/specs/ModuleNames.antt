@@ -51,8 +51,11 @@ abbrev pub is_operation : Node → Bool
 is_operation (Op kind args) = true
 is_operation other = false
 
+abbrev pub is_operation_row : ℕ × NodeRow → Bool
+is_operation_row p = is_operation p.1.node
+
 abbrev pub operation_nodes : Graph → List (ℕ × NodeRow)
-operation_nodes g = filter (λ (p : ℕ × NodeRow). is_operation p.1.node) (numbered_nodes g)
+operation_nodes g = filter is_operation_row (numbered_nodes g)
 
 -- a letter and the number of the node at a place
 abbrev pub node_name : Graph → List ℕ → ℕ → List ℕ

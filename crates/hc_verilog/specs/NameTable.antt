@@ -30,6 +30,13 @@ pub record HasRoom (g : Graph) (names : ModuleNames) : Type 0 where
   pub instances : length names.instances.items ≡ length g.instances
   pub cells : length names.cells.items ≡ length g.nodes
 
+-- no slot has a name
+pub record IsEmptyTable (names : ModuleNames) : Type 0 where
+  pub nodes : (k : ℕ) → name_at names.nodes.items k ≡ []
+  pub memories : (k : ℕ) → name_at names.memories.items k ≡ []
+  pub instances : (k : ℕ) → name_at names.instances.items k ≡ []
+  pub cells : (k : ℕ) → name_at names.cells.items k ≡ []
+
 -- the mangled form of a wanted name goes into a slot
 pub record IsFilled (want : List ℕ) (used used' : List (List ℕ)) (slots slots' : List (Option (List ℕ))) (at : ℕ) : Type 0 where
   pub given : List ℕ

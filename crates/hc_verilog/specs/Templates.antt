@@ -86,6 +86,10 @@ abbrev pub is_output_of : ℕ → ℕ → Node → Bool
 is_output_of i port (InstOut it q) = (it.0 == i) && (q == port)
 is_output_of i port other = false
 
+-- an output of an instance; `output` gives what each is connected to
+unfoldable pub result_line : (ℕ → List ℕ) → ℕ × Port → List ℕ
+result_line output q = codes "    ." ++ q.1.name ++ codes "(" ++ output q.0 ++ codes ")"
+
 -- The lines of a module where `name` gives each thing its name.
 module _ (name : Named → List ℕ) where
   unfoldable pub name_of_id : NodeId → List ℕ
@@ -194,21 +198,17 @@ module _ (name : Named → List ℕ) where
   write_line m w = codes "    if (" ++ name_of_id w.enable ++ codes ") " ++ word_text m w.addr ++ codes " <= " ++ name_of_id w.value ++ codes ";"
 
   -- the lines for the write ports of a memory, where it has any
+  abbrev pub write_lines : ℕ → List WritePort → List (List ℕ)
+  write_lines m [] = []
+  write_lines m (w ∷ ws) = clocked (map (write_line m) (w ∷ ws))
+
   unfoldable pub memory_lines : ℕ × Memory → List (List ℕ)
-  memory_lines p = by p.1.writes
-    where
-      by : List WritePort → List (List ℕ)
-      by [] = []
-      by (w ∷ ws) = clocked (map (write_line p.0) (w ∷ ws))
+  memory_lines p = write_lines p.0 p.1.writes
 
   -- ---- instances
 
   unfoldable pub connection_line : Port × NodeId → List ℕ
   connection_line c = codes "    ." ++ c.0.name ++ codes "(" ++ name_of_id c.1 ++ codes "),"
-
-  -- an output of an instance; `output` gives what each is connected to
-  unfoldable pub result_line : (ℕ → List ℕ) → ℕ × Port → List ℕ
-  result_line output q = codes "    ." ++ q.1.name ++ codes "(" ++ output q.0 ++ codes ")"
 
   -- an instance of the module of this title
   unfoldable pub instance_lines : List ℕ → (ℕ → List ℕ) → ℕ × Instance → List (List ℕ)

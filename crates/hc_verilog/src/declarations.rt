@@ -5,7 +5,7 @@ ghost use Rattle.hc_bits.specs.Digits.{lines_text};
 ghost use Rattle.hc_verilog.specs.NameTable.{name_by, mark_at, is_unmarked};
 ghost use Rattle.hc_verilog.specs.Templates.{wire_declaration, register_declaration, declaration, memory_declaration};
 
-use crate::names::{is_marked, ModuleNames};
+use crate::names::{ModuleNames, is_marked};
 use crate::text::{push, push_decimal, push_literal, push_range};
 use hc_bits::Bits;
 use hc_fault::NoMemory;

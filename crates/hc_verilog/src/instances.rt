@@ -21,11 +21,7 @@ use std::collections::HashMap;
 pub(crate) type Results = HashMap<(usize, usize), usize>;
 
 /// The outputs of instances among the nodes, of which the first has this place.
-pub(crate) fn results_of(
-    alloc: Global,
-    first: usize,
-    rows: &[NodeRow],
-) -> Result<Results, NoMemory>
+pub(crate) fn results_of(alloc: Global, first: usize, rows: &[NodeRow]) -> Result<Results, NoMemory>
     requires { first + length rows.now < 2 ^ 64 }
     ensures { IfOk result (λ results. AreResults (enumerate_from first rows.now) results.entries) }
 {
@@ -164,12 +160,18 @@ fn push_instance(
 {
     let ports = &instance.ports;
     push_start(out, module, names.instance(place))?;
-    push_connections(out, names, ports.inputs.as_slice(), instance.conns.as_slice())?;
+    push_connections(
+        out,
+        names,
+        ports.inputs.as_slice(),
+        instance.conns.as_slice(),
+    )?;
     push_results(out, names, results, place, ports.outputs.as_slice())?;
     push(out, b"  );\n")
 }
 
 /// The instances.
+#[tactic(auto, unfolding(crate::specs::Templates::all_instance_lines))]
 pub(crate) fn push_instances(
     out: &mut Vec<u8>,
     names: &ModuleNames,

@@ -17,7 +17,10 @@ use hc_signal::{Circuit, Node, NodeId, NodeRow, Op2};
 fn width_of(circuit: &Circuit, id: NodeId) -> u32
     ensures { result ≡ width_at circuit.now id }
 {
-    circuit.nodes().get(id.0 as usize).map_or(0, |row| row.width)
+    circuit
+        .nodes()
+        .get(id.0 as usize)
+        .map_or(0, |row| row.width)
 }
 
 /// The size of a memory.
@@ -55,12 +58,7 @@ fn push_wire(
 }
 
 #[tactic(auto, unfolding(crate::specs::Templates::assign))]
-fn push_constant(
-    out: &mut Vec<u8>,
-    target: &[u8],
-    width: u32,
-    value: Bits,
-) -> Result<(), NoMemory>
+fn push_constant(out: &mut Vec<u8>, target: &[u8], width: u32, value: Bits) -> Result<(), NoMemory>
     ensures { OnOk result (out.new.items ≡ out.old.items ++ lines_text (assign target.now (literal width value.value) ∷ [])) }
 {
     push_target(out, target)?;
@@ -86,12 +84,7 @@ fn sign(op: Op2) -> &'static [u8]
 
 /// An operand of an operator.
 #[tactic(auto, unfolding(crate::specs::Templates::operand_text))]
-fn push_operand(
-    out: &mut Vec<u8>,
-    names: &ModuleNames,
-    op: Op2,
-    id: NodeId,
-) -> Result<(), NoMemory>
+fn push_operand(out: &mut Vec<u8>, names: &ModuleNames, op: Op2, id: NodeId) -> Result<(), NoMemory>
     ensures { OnOk result (out.new.items ≡ out.old.items ++ operand_text (name_by names.now) op id) }
 {
     match op {
@@ -100,14 +93,10 @@ fn push_operand(
             push(out, names.operand(id))?;
             push(out, b")")
         }
-        Op2::Add
-        | Op2::Sub
-        | Op2::Mulu
-        | Op2::And
-        | Op2::Or
-        | Op2::Xor
-        | Op2::Eq
-        | Op2::Lt => push(out, names.operand(id)),
+        Op2::Add | Op2::Sub | Op2::Mulu | Op2::And | Op2::Or | Op2::Xor | Op2::Eq | Op2::Lt => push(
+            out,
+            names.operand(id),
+        ),
     }
 }
 
@@ -144,7 +133,12 @@ fn push_binary(
 }
 
 #[tactic(auto, unfolding(crate::specs::Templates::assign))]
-fn push_not(out: &mut Vec<u8>, names: &ModuleNames, target: &[u8], a: NodeId) -> Result<(), NoMemory>
+fn push_not(
+    out: &mut Vec<u8>,
+    names: &ModuleNames,
+    target: &[u8],
+    a: NodeId,
+) -> Result<(), NoMemory>
     ensures { OnOk result (out.new.items ≡ out.old.items ++ lines_text (assign target.now (codes "~" ++ name_of_id (name_by names.now) a) ∷ [])) }
 {
     push_target(out, target)?;

@@ -1,13 +1,15 @@
 //! Verilog: the text of a module.
 #![tactic(auto)]
 
-mod form_text;
 mod declarations;
+mod form_text;
 mod header;
 mod instances;
 mod items;
 mod memories;
 mod names;
+mod naming;
+mod tables;
 mod text;
 
 pub use form_text::module_text;

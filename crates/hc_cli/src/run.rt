@@ -138,9 +138,3 @@ pub fn run_one<S: Source, K: Sink>(
         Err(_) => Outcome { status: 4 },
     }
 }
-
-/// For each list of words and each text at most one status and one output are due.
-pub fn one_due()
-    ensures { (words : List (List ℕ)) (text : List ℕ) (d e : Due) → IsDue words text d → IsDue words text e → d ≡ e }
-{
-}

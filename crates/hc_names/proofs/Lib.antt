@@ -1,3 +1,4 @@
 pub mod Members
 pub mod Numbered
 pub mod Table
+pub mod Mangled

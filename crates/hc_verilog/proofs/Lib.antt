@@ -6,3 +6,4 @@ pub mod Slots
 pub mod Taking
 pub mod Parts
 pub mod Assembly
+pub mod Single

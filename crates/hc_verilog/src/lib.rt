@@ -6,6 +6,7 @@ mod form_text;
 mod header;
 mod instances;
 mod items;
+mod laws;
 mod memories;
 mod names;
 mod naming;
@@ -13,3 +14,4 @@ mod tables;
 mod text;
 
 pub use form_text::module_text;
+pub use laws::{module_texts_are_single, names_taken_are_single, tree_texts_are_single};

@@ -3,9 +3,8 @@
 
 use hc_cli::run_one;
 use hc_outside::{StdSink, StdSource};
-use std::env;
-use std::io;
 use std::process::ExitCode;
+use std::{env, io};
 
 /// The command line, without the program's own name.
 fn words(rt: &HostRuntime) -> io::Result<Vec<String>> {

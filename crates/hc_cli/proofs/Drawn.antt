@@ -17,11 +17,11 @@ pub gives_unless : (result : Result NodeId BuildStop) (broken : Option FaultKind
 gives_unless (Ok id) broken new want n obeys made =
     by obeys ∙ (λ i. good (sym made.0 i) (sym made.1 i))
   where
-  good : Graph → NodeId → Result (Graph × NodeId) FaultKind
-  good h m = Ok (h, m)
+    good : Graph → NodeId → Result (Graph × NodeId) FaultKind
+    good h m = Ok (h, m)
 
-  by : broken ≡ None → unless broken (want, n) ≡ good want n
-  by e = ap (λ (b : Option FaultKind). let x : Graph × NodeId = (want, n) in unless b x) e
+    by : broken ≡ None → unless broken (want, n) ≡ good want n
+    by e = ap (λ (b : Option FaultKind). let x : Graph × NodeId = (want, n) in unless b x) e
 gives_unless (Err (Fault kind)) broken new want n obeys made = ap (λ (b : Option FaultKind). let x : Graph × NodeId = (want, n) in unless b x) obeys
 gives_unless (Err NoMemory) broken new want n obeys made = tt
 
@@ -58,8 +58,8 @@ output_drawn (Ok id) broken g new name w obeys made =
     let e : id ≡ next g = as_id id (length g.nodes) made.1 in
     gives_unless (Ok id) broken new (with_output g name w) (next g) obeys (made.0 ∙ ap (λ (n : NodeId). with_wire n) e, e)
   where
-  with_wire : NodeId → Graph
-  with_wire n = record (with_output g name w) { outputs = g.outputs ++ n ∷ [] }
+    with_wire : NodeId → Graph
+    with_wire n = record (with_output g name w) { outputs = g.outputs ++ n ∷ [] }
 output_drawn (Err e) broken g new name w obeys made = gives_unless (Err e) broken new (with_output g name w) (next g) obeys tt
 
 pub output_grows : (result : Result NodeId BuildStop) (g new : Graph) (name : List ℕ) (w : ℕ) → IfOk result (AddsOutput g name w new) → IfOk result (λ id. Grows g new id)

@@ -34,10 +34,10 @@ long_due (Some text) words d is long e = record { text = text; holds = refl; due
 pub written_of : (words : List (List ℕ)) (left : Option (List ℕ)) (d : Due) → IsDueFor words left d → IsWritten d.status
 written_of words left d due = at due.due
   where
-  at : IsDue words due.text d → IsWritten d.status
-  at (inl (is, e)) = inr (inl (ap (λ (x : Due). x.status) e))
-  at (inr (is, inl (out, m, e))) = inl (ap (λ (x : Due). x.status) e)
-  at (inr (is, inr (none, e))) = inr (inr (ap (λ (x : Due). x.status) e))
+    at : IsDue words due.text d → IsWritten d.status
+    at (inl (is, e)) = inr (inl (ap (λ (x : Due). x.status) e))
+    at (inr (is, inl (out, m, e))) = inl (ap (λ (x : Due). x.status) e)
+    at (inr (is, inr (none, e))) = inr (inr (ap (λ (x : Due). x.status) e))
 
 not_both : (b : Bool) → b ≡ true → b ≡ false → ⊥
 not_both b t f = cc

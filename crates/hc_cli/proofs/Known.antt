@@ -52,7 +52,7 @@ last_or (z ∷ xs) x y (later h) = elim (last_or xs x y h) [ inl g ↦ inl (late
 
 pub known_more : (g h : Graph) (names more : Names) (w : List ℕ) (id : NodeId) → AreKnown g names → Grows g h id → more ≡ names ++ (w, id) ∷ [] → AreKnown h more
 known_more g h names more w id known grows e n has = elim (last_or names (w, id) n (subst (λ (l : Names). Has l n) e has)) [
-  inl old ↦ known_kept g h names id known grows n old
+  | inl old ↦ known_kept g h names id known grows n old
   | inr new ↦ subst (λ (m : List ℕ × NodeId). IsNode h m.1) (sym new) grows.node
 ]
 

@@ -22,8 +22,8 @@ same_lines : (name : Named → List ℕ) (g : Graph) (m n : ℕ → List ℕ) (t
 unfolding module_lines
 same_lines name g m n title none =
     ap (λ (ls : List (List ℕ)).
-        header name g title ++ (map (declaration name) (inner_nodes g) ++ (map (memory_declaration name) (enumerate_from 0 g.memories)
-        ++ (flat_map (item name g) (numbered_nodes g) ++ (flat_map (memory_lines name) (enumerate_from 0 g.memories) ++ (ls ++ codes "endmodule" ∷ []))))))
+    header name g title ++ (map (declaration name) (inner_nodes g) ++ (map (memory_declaration name) (enumerate_from 0 g.memories)
+    ++ (flat_map (item name g) (numbered_nodes g) ++ (flat_map (memory_lines name) (enumerate_from 0 g.memories) ++ (ls ++ codes "endmodule" ∷ []))))))
     (no_lines name m n (output_name name g) g.instances none)
 
 any_modules : (g : Graph) (m n : ℕ → List ℕ) (title text : List ℕ) → g.instances ≡ [] → IsModuleText g m title text → IsModuleText g n title text

@@ -1,6 +1,6 @@
 //! The circuit of a text of the first form.
 ghost use Rattle.std.specs.Prelude.{◌≡◌, ◌++◌, ◌∷◌, [], IfOk, IfErr, OnOk};
-ghost use Rattle.hc_signal.specs.Builds.{HasRoom, IsNode, IsWire};
+ghost use Rattle.hc_signal.specs.Builds.{HasRoomForNode, IsNode, IsWire};
 ghost use Rattle.hc_signal.specs.declared.stop.BuildStop.TheVariants as stop;
 ghost use Rattle.hc_cli.specs.Gives.{AreKnown, Gives, Grows, drawing};
 ghost use Rattle.hc_cli.specs.SmallGraph as small;
@@ -15,9 +15,9 @@ const MOST_WEIGHT: u64 = 1 << 20;
 
 /// Whether there is room for one more node.
 fn room(builder: &Builder) -> Result<(), BuildStop>
-    ensures none { OnOk result (HasRoom builder.now 0) }
-    ensures one { OnOk result (HasRoom builder.now 1) }
-    ensures two { OnOk result (HasRoom builder.now 2) }
+    ensures none { OnOk result (HasRoomForNode builder.now 0) }
+    ensures one { OnOk result (HasRoomForNode builder.now 1) }
+    ensures two { OnOk result (HasRoomForNode builder.now 2) }
     ensures memory { IfErr result (λ e. e ≡ stop.NoMemory) }
 {
     if builder.weight() < MOST_WEIGHT {

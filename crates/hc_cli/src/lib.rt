@@ -7,4 +7,4 @@ mod run;
 #[cfg(test)]
 mod tests;
 
-pub use run::{Outcome, run_one};
+pub use run::{Outcome, one_due, run_one};

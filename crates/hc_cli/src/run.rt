@@ -9,7 +9,9 @@ ghost use Rattle.hc_cli.specs.Prepared.{IsDueFor, due_of};
 
 use crate::module::verilog_of;
 use hc_fault::NoMemory;
+use hc_lang::first_form_has_one_design;
 use hc_outside::{ReadStop, Sink, Source, read_all, write_all};
+use hc_verilog::tree_texts_are_single;
 use std::alloc::Global;
 
 /// How a run ended. The statuses: 0 all that was due was written; 2 the words were refused, and the usage line was
@@ -137,4 +139,12 @@ pub fn run_one<S: Source, K: Sink>(
         },
         Err(_) => Outcome { status: 4 },
     }
+}
+
+/// For each list of words and each text at most one status and one output are due.
+pub fn one_due()
+    ensures { (words : List (List ℕ)) (text : List ℕ) (d e : Due) → IsDue words text d → IsDue words text e → d ≡ e }
+{
+    first_form_has_one_design();
+    tree_texts_are_single();
 }

@@ -5,7 +5,8 @@ use std::test::Fail;
 
 const ADDER: &str = "circuit add8\ninput a 8\ninput b 8\noutput s 8\nassign s add(a,b)\ntop add8\n";
 
-const ADDER_VERILOG: &str = "module add8 (\n  input clock,\n  input [7:0] a,\n  input [7:0] b,\n  output [7:0] s\n);\n  wire [7:0] n1;\n  assign s = n1;\n  assign n1 = a + b;\nendmodule\n";
+const ADDER_VERILOG: &str =
+    "module add8 (\n  input clock,\n  input [7:0] a,\n  input [7:0] b,\n  output [7:0] s\n);\n  wire [7:0] n1;\n  assign s = n1;\n  assign n1 = a + b;\nendmodule\n";
 
 const USAGE: &str = "usage: hardcaml COMMAND [--workers N] [--flat] [--seed N]\n";
 

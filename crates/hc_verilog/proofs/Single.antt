@@ -36,7 +36,7 @@ unfolding all_instance_lines
 agree name a b outputs start [] same = refl
 agree name a b outputs start (it ∷ its) same =
     ap₂ (λ x y. x ++ y) (ap (λ t. instance_lines name t (outputs start) (start, it)) (same start (omega arith)))
-        (agree name a b outputs (start + 1) its (λ k lt. same k (omega (arith, lt))))
+    (agree name a b outputs (start + 1) its (λ k lt. same k (omega (arith, lt))))
 
 pub module_text_single : (g : Graph) (a b : ℕ → List ℕ) (title s t : List ℕ) → ((k : ℕ) → k < length g.instances → a k ≡ b k) → IsModuleText g a title s → IsModuleText g b title t → s ≡ t
 unfolding module_lines
@@ -70,4 +70,4 @@ module _ (t : Tree) (modules others : ℕ → List ℕ) (agrees : (i : ℕ) → 
 pub tree_text_single : (t : Tree) (modules others : ℕ → List ℕ) (title a b : List ℕ) → ((i : ℕ) → Reached (graph t) (inst i) → modules i ≡ others i) → IsTreeText t modules title a → IsTreeText t others title b → a ≡ b
 tree_text_single t modules others title a b agrees (c, to, back, cc, e, x) (d, into, home, cd, f, y) =
     module_text_single c (λ i. modules (back.inst i)) (λ i. others (home.inst i)) title a b (one_instance t modules others agrees c d to back into home cc cd e f) x
-        (subst (λ g. IsModuleText g (λ i. others (home.inst i)) title b) (one_circuit t modules others agrees c d to back into home cc cd e f) y)
+    (subst (λ g. IsModuleText g (λ i. others (home.inst i)) title b) (one_circuit t modules others agrees c d to back into home cc cd e f) y)

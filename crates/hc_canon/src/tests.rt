@@ -1,4 +1,4 @@
-ghost use Rattle.hc_signal.specs.Builds.{HasRoom};
+ghost use Rattle.hc_signal.specs.Builds.{HasRoomForNode};
 
 use super::*;
 use hc_check::check;
@@ -10,7 +10,7 @@ use std::test::Fail;
 
 /// Few nodes so far.
 fn room(rt: &impl Abort, builder: &Builder)
-    ensures { HasRoom builder.now 2 }
+    ensures { HasRoomForNode builder.now 2 }
 {
     assert!(rt; builder.weight() < 1_000_000);
 }

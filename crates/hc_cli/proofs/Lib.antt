@@ -4,3 +4,5 @@ pub mod Known
 pub mod LeafText
 pub mod Found
 pub mod DueLaws
+pub mod Pieces
+pub mod Parts

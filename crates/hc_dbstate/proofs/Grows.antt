@@ -95,6 +95,7 @@ again_inserted h entries turns x id legal a b here =
         fresh = false;
         answer = there;
         entries = a;
+        found = here;
         turns = b;
         log = log_grows h legal entries turns [] id false x (a ∙ sym same) b (ap (λ l. slice_get l id.0) same ∙ there);
       },
@@ -112,6 +113,7 @@ fresh_inserted h entries turns x id legal a b at form kids new =
         fresh = true;
         answer = (at, new);
         entries = a;
+        found = ap (λ l. slice_get l id.0) a ∙ there;
         turns = b;
         log = log_grows h legal entries turns (x ∷ []) id true x a b there;
       },

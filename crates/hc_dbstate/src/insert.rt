@@ -1,4 +1,4 @@
-ghost use Rattle.std.specs.Prelude.{◌≡◌, ◌≢◌, ◌<◌, ◌++◌, ◌∷◌, [], All, IfErr, IfOk, IfNone, IfSome, IsTrue, ◌↔◌, MatchOption, OnErr, OnOk, Some, if◌then◌else◌, length, nat_eq, slice_get, ℕ};
+ghost use Rattle.std.specs.Prelude.{◌≡◌, ◌≢◌, ◌<◌, ◌++◌, ◌∷◌, [], All, IfErr, IfOk, IsTrue, ◌↔◌, MatchOption, OnErr, OnOk, Some, if◌then◌else◌, length, nat_eq, slice_get, ℕ};
 ghost use Rattle.hc_canon.specs.Hashing.{hash_of};
 ghost use Rattle.hc_canon.specs.declared.form.EntryId.{EntryId};
 ghost use Rattle.hc_dbstate.specs.Insertion.{IsInserted};
@@ -102,18 +102,18 @@ impl DbState {
                 Ok(EntryId(k))
             }
             None => {
-                let k = self.entries.len();
+                let place = self.entries.len();
                 let alloc = *self.entries.allocator();
-                match note(alloc, &mut self.places, key, k) {
+                match note(alloc, &mut self.places, key, place) {
                     Ok(()) => {}
                     Err(e) => return Err((form, e)),
                 }
                 self.entries.push_reserved(form);
                 self.turns.push_reserved(Turn {
-                    entry: EntryId(k),
+                    entry: EntryId(place),
                     fresh: true,
                 });
-                Ok(EntryId(k))
+                Ok(EntryId(place))
             }
         }
     }

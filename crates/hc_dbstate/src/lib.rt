@@ -13,3 +13,5 @@ pub use laws::{
 };
 pub use turns::{Entered, Turn};
 
+#[cfg(test)]
+mod tests;

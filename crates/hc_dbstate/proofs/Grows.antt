@@ -9,7 +9,7 @@ use Rattle.hc_canon.specs.FormView.{FormView, IsForm}
 use Rattle.hc_canon.proofs.LaidOut.{slice_cases, slice_right}
 use Rattle.hc_dbstate.specs.declared.turns.Turn.{Turn}
 use Rattle.hc_dbstate.specs.History.{History, fresh_turns, IsLegalTurn, IsLegal, turn, entered, log}
-use Rattle.hc_dbstate.specs.Insertion.{IsAnswer, entries_after, IsInserted}
+use Rattle.hc_dbstate.specs.Insertion.{IsInserted}
 use Rattle.hc_dbstate.proofs.Triples.{some_once, fresh_after, legal_names, log_is, triples, triples_grow}
 
 -- an element of a list that is one longer

@@ -1,0 +1,6 @@
+pub mod Triples
+pub mod Grows
+pub mod Replayed
+pub mod Unfolded
+pub mod Denoted
+pub mod Indexed

@@ -1,0 +1,4 @@
+pub mod History
+pub mod Insertion
+pub mod Places
+pub mod Unfolding

@@ -1,0 +1,68 @@
+ghost use Rattle.std.specs.Prelude.{◌≡◌, ◌<◌, [], Some, length, slice_get};
+ghost use Rattle.hc_dbstate.specs.History.{IsLegal};
+
+use crate::turns::Turn;
+use hc_canon::{EntryId, Form};
+use indexmap::IndexMap;
+use std::alloc::Global;
+use std::marker::Model;
+
+/// The entries, pairwise different, and a turn for each insertion. The history is always legal.
+#[derive(Drop)]
+pub struct DbState {
+    pub(crate) entries: Vec<Form>,
+    pub(crate) turns: Vec<Turn>,
+    pub(crate) places: IndexMap<u64, Vec<usize>>,
+}
+
+impl Model for DbState {
+    ghost use Rattle.hc_dbstate.specs.History.{History, IsLegal};
+    ghost use Rattle.hc_dbstate.specs.Places.{IsIndexOf};
+
+    ghost Value = { History };
+
+    ghost view = { λ state. record { entries = state.entries.items; turns = state.turns.items } };
+
+    ghost invariant = { λ state. IsLegal (record { entries = state.entries.items; turns = state.turns.items }) × IsIndexOf state.places state.entries.items };
+}
+
+impl DbState {
+    /// No entries and no turns.
+    pub fn new(alloc: Global) -> DbState
+        ensures { result ≡ record { entries = []; turns = [] } }
+    {
+        DbState {
+            entries: Vec::new(alloc),
+            turns: Vec::new(alloc),
+            places: IndexMap::new(alloc),
+        }
+    }
+
+    /// Each history is legal.
+    pub fn legal(&self)
+        ensures { IsLegal self.now }
+    {
+        let _ = &self.entries;
+    }
+
+    /// The form of an entry.
+    pub fn get(&self, id: EntryId) -> &Form
+        requires { id.0 < length self.now.entries }
+        ensures { slice_get self.now.entries id.0 ≡ Some result.now }
+    {
+        &self.entries[id.0]
+    }
+
+    /// The entries in the order of their places, and the turns in the order of the insertions.
+    pub fn into_parts(self) -> (Vec<Form>, Vec<Turn>)
+        ensures entries { result.0.items ≡ self.entries }
+        ensures turns { result.1.items ≡ self.turns }
+    {
+        let DbState {
+            entries,
+            turns,
+            places: _,
+        } = self;
+        (entries, turns)
+    }
+}

@@ -1,0 +1,17 @@
+//! The database of forms: each entry once, and a turn for each insertion.
+#![tactic(auto)]
+
+mod database;
+mod insert;
+mod laws;
+mod turns;
+
+pub use database::DbState;
+pub use laws::{
+    entries_grow_with_the_log, entries_unfold_once, logs_name_entries, logs_replay,
+    made_forms_tell_trees_apart, unfoldings_are_of_kids,
+};
+pub use turns::{Entered, Turn};
+
+#[cfg(test)]
+mod tests;

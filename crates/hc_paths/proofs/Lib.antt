@@ -1,0 +1,3 @@
+pub mod Composed
+pub mod KidMasks
+pub mod FlatWalks

@@ -3,7 +3,11 @@
 #![tactic(auto)]
 
 pub mod kinds;
+mod fanin;
 mod laws;
+mod masks;
+mod pile;
+mod search;
 pub mod make;
 
 pub use laws::{loops_and_masks_compose, loops_of_flat_nodes};

@@ -4,3 +4,5 @@ pub mod FlatWalks
 pub mod Searching
 pub mod Picked
 pub mod LocalSteps
+pub mod LocalMasks
+pub mod Orders

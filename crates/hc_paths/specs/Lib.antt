@@ -4,3 +4,4 @@ pub mod Kids
 pub mod Fanin
 pub mod Digraph
 pub mod Search
+pub mod Order

@@ -2,12 +2,14 @@
 //! an order in which nodes can be computed.
 #![tactic(auto)]
 
-pub mod kinds;
 mod fanin;
+pub mod kinds;
 mod laws;
+mod local;
+pub mod make;
 mod masks;
 mod pile;
+mod reached;
 mod search;
-pub mod make;
 
 pub use laws::{loops_and_masks_compose, loops_of_flat_nodes};

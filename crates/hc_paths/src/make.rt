@@ -7,6 +7,7 @@ ghost use Rattle.hc_signal.specs.Occurrences.{AreMasks, HasCombLoop};
 ghost use Rattle.hc_signal.specs.Tree.{Tree, leaf, tree};
 
 use crate::kinds::{PathStop, Paths};
+use crate::local::{local_order, local_paths};
 use hc_signal::{Circuit, NodeId};
 use std::alloc::Global;
 
@@ -25,9 +26,10 @@ pub fn paths(alloc: Global, circuit: &Circuit, kids: &[Paths]) -> Result<Paths, 
     ensures cycle { IfErr result (λ stop. stop ≡ PathStop.Loop → (trees : ℕ → Tree) → AreMasksOfKids (tree circuit.now trees) (masks_of kids.now) → HasCombLoop (tree circuit.now trees)) }
 {
     circuit.lawful();
-    let _ = kids;
-    let _ = alloc;
-    Err(PathStop::NoMemory)
+    match local_paths(alloc, circuit, kids) {
+        Ok(paths) => Ok(paths),
+        Err(stop) => Err(stop),
+    }
 }
 
 /// The nodes that the outputs of a circuit without instances reach, each once, each after those that it is computed from
@@ -39,6 +41,8 @@ pub fn schedule(alloc: Global, circuit: &Circuit) -> Result<Vec<NodeId>, PathSto
     ensures cycle { IfErr result (λ stop. stop ≡ PathStop.Loop → HasCombLoop (leaf circuit.now)) }
 {
     circuit.lawful();
-    let _ = alloc;
-    Err(PathStop::NoMemory)
+    match local_order(alloc, circuit, &[]) {
+        Ok(order) => Ok(order.into_vec()),
+        Err(stop) => Err(stop),
+    }
 }

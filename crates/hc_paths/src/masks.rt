@@ -54,7 +54,8 @@ fn set_mask(masks: &mut Vec<u128>, id: NodeId, to: u128)
 fn joined(masks: &[u128], start: u128, ids: &[NodeId]) -> u128
     ensures { result ≡ joined masks.now start ids.now }
 {
-    ids.iter().fold(start, |mask, id| mask | mask_of(masks, *id))
+    ids.iter()
+        .fold(start, |mask, id| mask | mask_of(masks, *id))
 }
 
 /// The masks of all nodes: each has those of the nodes that it is computed from, which the order has before it.

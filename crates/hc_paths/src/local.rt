@@ -24,14 +24,8 @@ pub fn local_order(
     ensures cycle { IfErr result (λ stop. stop ≡ PathStop.Loop → HasLocalLoop circuit.now (masks_of kids.now)) }
 {
     circuit.lawful();
-    let roots = match reached(alloc, circuit) {
-        Ok(roots) => roots,
-        Err(_) => return Err(PathStop::NoMemory),
-    };
-    match order(alloc, circuit, kids, roots.as_slice()) {
-        Ok(order) => Ok(order),
-        Err(stop) => Err(stop),
-    }
+    let roots = reached(alloc, circuit)?;
+    order(alloc, circuit, kids, roots.as_slice())
 }
 
 /// The masks of the outputs, along an order.
@@ -58,12 +52,7 @@ pub fn local_paths(alloc: Global, circuit: &Circuit, kids: &[Paths]) -> Result<P
     ensures free { OnOk result (¬ HasLocalLoop circuit.now (masks_of kids.now)) }
     ensures cycle { IfErr result (λ stop. stop ≡ PathStop.Loop → HasLocalLoop circuit.now (masks_of kids.now)) }
 {
-    let order = match local_order(alloc, circuit, kids) {
-        Ok(order) => order.into_vec(),
-        Err(stop) => return Err(stop),
-    };
-    match masks_along(alloc, circuit, kids, order.as_slice()) {
-        Ok(paths) => Ok(paths),
-        Err(_) => Err(PathStop::NoMemory),
-    }
+    let order = local_order(alloc, circuit, kids)?.into_vec();
+    let paths = masks_along(alloc, circuit, kids, order.as_slice())?;
+    Ok(paths)
 }

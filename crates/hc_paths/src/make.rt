@@ -26,10 +26,7 @@ pub fn paths(alloc: Global, circuit: &Circuit, kids: &[Paths]) -> Result<Paths, 
     ensures cycle { IfErr result (λ stop. stop ≡ PathStop.Loop → (trees : ℕ → Tree) → AreMasksOfKids (tree circuit.now trees) (masks_of kids.now) → HasCombLoop (tree circuit.now trees)) }
 {
     circuit.lawful();
-    match local_paths(alloc, circuit, kids) {
-        Ok(paths) => Ok(paths),
-        Err(stop) => Err(stop),
-    }
+    local_paths(alloc, circuit, kids)
 }
 
 /// The nodes that the outputs of a circuit without instances reach, each once, each after those that it is computed from
@@ -41,8 +38,6 @@ pub fn schedule(alloc: Global, circuit: &Circuit) -> Result<Vec<NodeId>, PathSto
     ensures cycle { IfErr result (λ stop. stop ≡ PathStop.Loop → HasCombLoop (leaf circuit.now)) }
 {
     circuit.lawful();
-    match local_order(alloc, circuit, &[]) {
-        Ok(order) => Ok(order.into_vec()),
-        Err(stop) => Err(stop),
-    }
+    let order = local_order(alloc, circuit, &[])?;
+    Ok(order.into_vec())
 }

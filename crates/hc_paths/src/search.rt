@@ -92,17 +92,11 @@ impl Search {
     {
         match item {
             Item::Enter(id) => match self.colours[id.0 as usize] {
-                Colour::Fresh => match self.open(circuit, kids, id) {
-                    Ok(()) => Ok(()),
-                    Err(_) => Err(PathStop::NoMemory),
-                },
+                Colour::Fresh => Ok(self.open(circuit, kids, id)?),
                 Colour::Open => Err(PathStop::Loop),
                 Colour::Closed => Ok(()),
             },
-            Item::Leave(id) => match self.close(id) {
-                Ok(()) => Ok(()),
-                Err(_) => Err(PathStop::NoMemory),
-            },
+            Item::Leave(id) => Ok(self.close(id)?),
         }
     }
 }
@@ -118,15 +112,9 @@ pub fn order(
     ensures order { IfOk result (λ order. IsOrder (local_fanin circuit.now (masks_of kids.now)) roots.now order) }
     ensures cycle { IfErr result (λ stop. stop ≡ PathStop.Loop → HasCycle (local_fanin circuit.now (masks_of kids.now)) roots.now) }
 {
-    let mut search = match Search::new(alloc, circuit.nodes().len(), roots) {
-        Ok(search) => search,
-        Err(_) => return Err(PathStop::NoMemory),
-    };
+    let mut search = Search::new(alloc, circuit.nodes().len(), roots)?;
     'steps: while let Some(item) = search.stack.pop() {
-        match search.step(circuit, kids, item) {
-            Ok(()) => {}
-            Err(stop) => return Err(stop),
-        }
+        search.step(circuit, kids, item)?;
     }
     Ok(search.order)
 }

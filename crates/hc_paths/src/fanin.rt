@@ -41,10 +41,11 @@ fn add_operands(ids: &mut Vec<NodeId>, node: &Node) -> Result<(), NoMemory>
         Node::Select { a, hi: _, lo: _ } => add(ids, *a),
         Node::Read { mem: _, addr } => add(ids, *addr),
         Node::Op { kind: _, args } => add_all(ids, args.as_slice()),
+        // the value of a register is that before the clock edge
+        Node::Reg { .. } => Ok(()),
         Node::Wire { driver: None }
         | Node::Input { .. }
         | Node::Const { .. }
-        | Node::Reg { .. }
         | Node::InstOut { .. } => Ok(()),
     }
 }

@@ -1,0 +1,8 @@
+pub mod Composed
+pub mod KidMasks
+pub mod FlatWalks
+pub mod Searching
+pub mod Picked
+pub mod LocalSteps
+pub mod LocalMasks
+pub mod Orders

@@ -1,5 +1,5 @@
 -- A turn in which a form is inserted.
-use Rattle.std.proofs.Common.{◌≡◌, ◌⊎◌, ◌<◌, ℕ, inl, inr, refl, sym, ap, ◌∙◌, subst, ⊎_elim, List, [], ◌∷◌, ◌++◌, length, append_assoc, append-nil}
+use Rattle.std.proofs.Common.{◌≡◌, ◌<◌, inl, inr, refl, sym, ap, ◌∙◌, subst, ⊎_elim, List, [], ◌∷◌, ◌++◌, length, append_assoc, append-nil}
 use Rattle.std.specs.Prelude.{slice_get, Some, Result, Ok, Err, IfOk, OnErr, All}
 use Rattle.std.proofs.lemmas.Option.{slice_get_within}
 use Rattle.std.proofs.lemmas.List.Elements.{All-head, All-tail, All-weaker}
@@ -12,7 +12,7 @@ use Rattle.hc_dbstate.specs.History.{History, IsLegal, log, entered}
 use Rattle.hc_dbstate.specs.Insertion.{IsInserted}
 use Rattle.hc_turn.specs.declared.view.View.{View}
 use Rattle.hc_turn.specs.Views.{ArePrefixesOf, AddsAtMostOne, after_enter, left_with}
-use Rattle.hc_db.specs.Inserting.{Names, KnowsEntry, KnowsKids, Finds, Inserts}
+use Rattle.hc_db.specs.Inserting.{Names, KnowsKids, Finds, Inserts}
 
 module _ {X : Type 0} where
   has_left : (xs ys : List X) (x : X) → Has xs x → Has (xs ++ ys) x

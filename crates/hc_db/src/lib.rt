@@ -3,6 +3,8 @@
 
 mod db;
 mod kept;
+#[cfg(test)]
+mod tests;
 
 pub use db::{Db, Pass};
 pub use kept::Kept;

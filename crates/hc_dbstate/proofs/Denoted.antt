@@ -1,5 +1,5 @@
 -- Forms of circuits whose instances' entries denote trees are equal exactly where the circuits with these trees are the same.
-use Rattle.std.proofs.Common.{◌≡◌, ℕ, zero, suc, ◌<◌, List, length, refl, sym, subst, subst₂, ◌∙◌, ap, arith}
+use Rattle.std.proofs.Common.{◌≡◌, ℕ, zero, suc, ◌<◌, List, length, sym, subst, subst₂, ◌∙◌, ap, arith}
 use Rattle.std.proofs.lemmas.Option.{slice_get_within}
 use Rattle.std.specs.Prelude.{slice_get, Some}
 use Rattle.hc_signal.specs.Graph.{Graph, inst, Reached}
@@ -12,8 +12,8 @@ use Rattle.hc_canon.proofs.Canonical.{instance_stays}
 use Rattle.hc_canon.proofs.Isomorphisms.{reached_to, same-refl, same-sym, same-trans}
 use Rattle.hc_canon.proofs.Decided.{forms_from_isomorphic, isomorphic_from_forms}
 use Rattle.hc_dbstate.specs.History.{History, IsLegal}
-use Rattle.hc_dbstate.specs.Unfolding.{kid_tree, unfolding_of, Denotes, AreDenoted}
-use Rattle.hc_dbstate.proofs.Triples.{some_once, some_at}
+use Rattle.hc_dbstate.specs.Unfolding.{kid_tree, unfolding_of, AreDenoted}
+use Rattle.hc_dbstate.proofs.Triples.{some_at}
 use Rattle.hc_dbstate.proofs.Unfolded.{kid_below, unfolded, unfolds}
 
 -- a reached instance has an entry

@@ -9,7 +9,7 @@ use Rattle.hc_canon.specs.FormView.{FormView, IsForm}
 use Rattle.hc_canon.proofs.LaidOut.{slice_cases, slice_right}
 use Rattle.hc_dbstate.specs.declared.turns.Turn.{Turn}
 use Rattle.hc_dbstate.specs.History.{History, fresh_turns, IsLegalTurn, IsLegal, turn, entered, log}
-use Rattle.hc_dbstate.specs.Insertion.{IsAnswer, entries_after, IsInserted}
+use Rattle.hc_dbstate.specs.Insertion.{IsInserted}
 use Rattle.hc_dbstate.proofs.Triples.{some_once, fresh_after, legal_names, log_is, triples, triples_grow}
 
 -- an element of a list that is one longer
@@ -95,6 +95,7 @@ again_inserted h entries turns x id legal a b here =
         fresh = false;
         answer = there;
         entries = a;
+        found = here;
         turns = b;
         log = log_grows h legal entries turns [] id false x (a ∙ sym same) b (ap (λ l. slice_get l id.0) same ∙ there);
       },
@@ -112,6 +113,7 @@ fresh_inserted h entries turns x id legal a b at form kids new =
         fresh = true;
         answer = (at, new);
         entries = a;
+        found = ap (λ l. slice_get l id.0) a ∙ there;
         turns = b;
         log = log_grows h legal entries turns (x ∷ []) id true x a b there;
       },

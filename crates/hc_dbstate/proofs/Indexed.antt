@@ -1,6 +1,8 @@
 -- The index lists the places of the entries by their hash.
 use Rattle.std.proofs.Common.{◌≡◌, ◌≢◌, ◌+◌, ◌++◌, ℕ, zero, suc, Bool, true, false, cond, List, [], ◌∷◌, nat_eq, length, ap, ap₂, sym, subst, ◌∙◌, arith, zero-add}
-use Rattle.std.specs.Prelude.{slice_get, Some}
+use Rattle.std.specs.Prelude.{All, slice_get, Option, Some, None, MatchOption}
+use Rattle.std.specs.List.{AllByRecursion}
+use Rattle.std.proofs.lemmas.List.Elements.{recursion_from_All}
 use Rattle.std.specs.Cmp.{unsigned_Decides}
 use Rattle.hc_signal.specs.Member.{Has, first, later}
 use Rattle.hc_canon.specs.FormView.{FormView}
@@ -23,11 +25,21 @@ listed_there h i (y ∷ xs) (suc j) x e q =
     go true k = later k
     go false k = k
 
+of_all : {X : Type 0} (P : X → Type 0) (xs : List X) (x : X) → AllByRecursion P xs → Has xs x → P x
+of_all P [] x a h = elim h [ ]
+of_all P (y ∷ xs) x a first = a.0
+of_all P (y ∷ xs) x a (later h) = of_all P xs x a.1 h
+
 -- a form that stands at none of the places of its hash stands nowhere
-pub none_elsewhere : (h : ℕ) (xs : List FormView) (ps : List ℕ) (x : FormView) → ps ≡ places_from 0 h xs → h ≡ hash_of x → ((p : ℕ) → Has ps p → slice_get xs p ≢ Some x) → (j : ℕ) → slice_get xs j ≢ Some x
-none_elsewhere h xs ps x e q n j k =
+pub none_elsewhere : (h : ℕ) (xs : List FormView) (ps : List ℕ) (x : FormView) → ps ≡ places_from 0 h xs → h ≡ hash_of x → All (λ p. slice_get xs p ≢ Some x) ps → (j : ℕ) → slice_get xs j ≢ Some x
+none_elsewhere h xs ps x e q a j k =
     let z : 0 + j ≡ j = omega arith in
-    n j (subst (λ l. Has l j) (sym e) (subst (λ m. Has (places_from 0 h xs) m) z (listed_there h 0 xs j x k (sym q)))) k
+    let listed : Has ps j = subst (λ l. Has l j) (sym e) (subst (λ m. Has (places_from 0 h xs) m) z (listed_there h 0 xs j x k (sym q))) in
+    of_all (λ p. slice_get xs p ≢ Some x) ps j (recursion_from_All (λ p. slice_get xs p ≢ Some x) ps a) listed k
+
+pub on_none : {X : Type 0} (P Q : Type 0) (R : X → Type 0) → (P → Q) → (o : Option X) → MatchOption o P R → MatchOption o Q R
+on_none P Q R f None h = f h
+on_none P Q R f (Some x) h = h
 
 places_push : (h i : ℕ) (xs : List FormView) (e : FormView) → places_from i h (xs ++ e ∷ []) ≡ cond (nat_eq (hash_of e) h) (places_from i h xs ++ (i + length xs) ∷ []) (places_from i h xs)
 places_push h i [] e = ap (λ n. cond (nat_eq (hash_of e) h) (n ∷ []) []) (omega arith)

@@ -9,7 +9,7 @@ use Rattle.hc_canon.proofs.LaidOut.{slice_right}
 use Rattle.hc_dbstate.specs.declared.turns.Turn.{Turn}
 use Rattle.hc_dbstate.specs.declared.turns.Entered.{Entered}
 use Rattle.hc_dbstate.specs.History.{History, fresh_turns, IsLegalTurn, IsLegal, turn, entered, log}
-use Rattle.hc_dbstate.specs.Insertion.{IsAnswer, entries_after, Replays}
+use Rattle.hc_dbstate.specs.Insertion.{entries_after, Replays}
 use Rattle.hc_dbstate.proofs.Triples.{some_once, some_at, fresh_after, fresh_some, legal_names, NameEntries, log_is, triples, triples_step}
 use Rattle.hc_dbstate.proofs.Grows.{take_all}
 

@@ -1,12 +1,12 @@
 -- The turns of a legal history and their triples.
-use Rattle.std.proofs.Common.{◌≡◌, ℕ, zero, suc, ◌+◌, ◌<◌, ◌≤◌, Bool, true, false, cond, List, [], ◌∷◌, ◌++◌, length, take, refl, sym, subst, ◌∙◌, ap, arith, length-append}
+use Rattle.std.proofs.Common.{◌≡◌, ℕ, zero, suc, ◌+◌, ◌<◌, ◌≤◌, Bool, true, false, cond, List, [], ◌∷◌, ◌++◌, length, take, refl, sym, subst, ◌∙◌, ap, arith}
 use Rattle.std.specs.Prelude.{slice_get, filter_map, option_map, Option, Some, None, unwrap_or}
 use Rattle.std.specs.List.{cons_option}
 use Rattle.std.proofs.lemmas.List.Sums.{sum_by-append}
 use Rattle.std.proofs.lemmas.List.Elements.{filter_map-append}
 use Rattle.hc_signal.specs.Member.{Has, first, later}
 use Rattle.hc_canon.specs.FormView.{FormView}
-use Rattle.hc_canon.proofs.LaidOut.{slice_left, has_index}
+use Rattle.hc_canon.proofs.LaidOut.{slice_left}
 use Rattle.hc_dbstate.specs.declared.turns.Turn.{Turn}
 use Rattle.hc_dbstate.specs.declared.turns.Entered.{Entered}
 use Rattle.hc_dbstate.specs.History.{History, fresh_turns, IsLegalTurn, IsLegal, entered, log}

@@ -1,6 +1,5 @@
 -- The unfolding of an entry is its circuit with the unfoldings of its kids.
-use Rattle.std.proofs.Common.{◌≡◌, ℕ, zero, suc, ◌<◌, List, [], ◌∷◌, ◌++◌, length, refl, sym, ◌∙◌, ap, arith}
-use Rattle.std.proofs.lemmas.Option.{slice_get_within}
+use Rattle.std.proofs.Common.{◌≡◌, ℕ, zero, suc, ◌<◌, List, ◌++◌, length, refl, sym, ◌∙◌, ap, arith}
 use Rattle.std.specs.Prelude.{slice_get, Option, Some, None}
 use Rattle.hc_signal.specs.Tree.{Tree, tree}
 use Rattle.hc_walk.proofs.Members.{has_slice}

@@ -20,6 +20,7 @@ pub record IsInserted (old new : History) (form : FormView) (id : EntryId) : Typ
   pub fresh : Bool
   pub answer : IsAnswer old.entries form id fresh
   pub entries : new.entries ≡ entries_after old.entries form fresh
+  pub found : slice_get new.entries id.0 ≡ Some form
   pub turns : new.turns ≡ old.turns ++ turn id fresh ∷ []
   pub log : log new ≡ log old ++ entered id fresh form ∷ []
 

@@ -1,0 +1,81 @@
+-- A turn in which a form is inserted.
+use Rattle.std.proofs.Common.{◌≡◌, ◌<◌, inl, inr, refl, sym, ap, ◌∙◌, subst, ⊎_elim, List, [], ◌∷◌, ◌++◌, length, append_assoc, append-nil}
+use Rattle.std.specs.Prelude.{slice_get, Some, Result, Ok, Err, IfOk, OnErr, All}
+use Rattle.std.proofs.lemmas.Option.{slice_get_within}
+use Rattle.std.proofs.lemmas.List.Elements.{All-head, All-tail, All-weaker}
+use mathlib.Core.List.{IsPrefix}
+use Rattle.hc_signal.specs.Member.{Has, first, later}
+use Rattle.hc_canon.specs.declared.form.EntryId.{EntryId}
+use Rattle.hc_canon.specs.FormView.{FormView}
+use Rattle.hc_dbstate.specs.declared.turns.Entered.{Entered}
+use Rattle.hc_dbstate.specs.History.{History, IsLegal, log, entered}
+use Rattle.hc_dbstate.specs.Insertion.{IsInserted}
+use Rattle.hc_turn.specs.declared.view.View.{View}
+use Rattle.hc_turn.specs.Views.{ArePrefixesOf, AddsAtMostOne, after_enter, left_with}
+use Rattle.hc_db.specs.Inserting.{Names, KnowsKids, Finds, Inserts}
+
+module _ {X : Type 0} where
+  has_left : (xs ys : List X) (x : X) → Has xs x → Has (xs ++ ys) x
+  has_left [] ys x h = elim h [ ]
+  has_left (y ∷ xs) ys x first = first
+  has_left (y ∷ xs) ys x (later h) = later (has_left xs ys x h)
+
+  All-has : (P : X → Type 0) (xs : List X) (x : X) → All P xs → Has xs x → P x
+  All-has P [] x all h = elim h [ ]
+  All-has P (y ∷ xs) x all first = All-head P y xs all
+  All-has P (y ∷ xs) x all (later h) = All-has P xs x (All-tail P y xs all) h
+
+pub log_nothing : log (record { entries = []; turns = [] }) ≡ []
+unfolding log
+log_nothing = refl
+
+module _ (h : History) (forms : (e : Entered) → Has (log h) e → slice_get h.entries e.entry.0 ≡ Some e.form) where
+  named_below : (turns : List Entered) (id : EntryId) → IsPrefix turns (log h) → Names turns id → id.0 < length h.entries
+  named_below turns id begins named =
+      let e = named.0 in
+      let among : Has (log h) e = subst (λ l. Has l e) begins.1 (has_left turns begins.0 e named.1) in
+      subst (λ (k : EntryId). k.0 < length h.entries) named.2 (slice_get_within h.entries e.entry.0 e.form (forms e among))
+
+  -- an entry that a pass knows is there
+  pub known_below : (v : View Entered) (form : FormView) → IsPrefix v.seen (log h) → ArePrefixesOf (log h) v.kept → KnowsKids v form → (id : EntryId) → Has form.kids id → id.0 < length h.entries
+  known_below v form seen kept knows id kid =
+      ⊎_elim
+      (λ (named : Names v.seen id). named_below v.seen id seen named)
+      (λ (found : (turns : List Entered) × Has v.kept turns × Names turns id). named_below found.0 id (All-has (λ turns. IsPrefix turns (log h)) v.kept found.0 kept found.1) found.2)
+      (knows id kid)
+
+module _ {X : Type 0} where
+  prefix_through : (xs ys zs : List X) → IsPrefix xs ys → IsPrefix ys zs → IsPrefix xs zs
+  prefix_through xs ys zs p q = (p.0 ++ q.0, sym (append_assoc xs p.0 q.0) ∙ (ap (λ l. l ++ q.0) p.1 ∙ q.1))
+
+  prefix_of_more : (old new : List X) → AddsAtMostOne old new → IsPrefix old new
+  prefix_of_more old new (inl same) = ([], append-nil old ∙ sym same)
+  prefix_of_more old new (inr more) = (more.0 ∷ [], sym more.1)
+
+  -- what begins with these lists still does when it grows
+  pub grows : (xs old new now : List X) (lists : List (List X)) → now ≡ new → AddsAtMostOne old new → IsPrefix xs old → ArePrefixesOf old lists → IsPrefix xs now × ArePrefixesOf now lists
+  grows xs old new now lists is more begins all =
+      let step : IsPrefix old now = subst (λ l. IsPrefix old l) (sym is) (prefix_of_more old new more) in
+      (prefix_through xs old now begins step, All-weaker (λ ys. IsPrefix ys old) (λ ys. IsPrefix ys now) (λ ys p. prefix_through ys old now p step) lists all)
+
+module _ {E : Type 0} (old new : History) (form : FormView) where
+  -- an insertion adds a turn, or none
+  pub adds : (answer : Result EntryId E) → IfOk answer (λ id. IsInserted old new form id) → OnErr answer (new ≡ old) → AddsAtMostOne (log old) (log new)
+  adds (Ok id) inserted same = inr (entered id inserted.fresh form, inserted.log)
+  adds (Err e) inserted same = inl (ap log same)
+
+  module _ (v held w : View Entered) (found : Finds v old) (legal : IsLegal new) (holds : held ≡ after_enter v (log old)) where
+    pub inserts : (answer : Result EntryId E) → IfOk answer (λ id. IsInserted old new form id)
+        → ((e : Entered) → log new ≡ held.seen ++ e ∷ [] → w ≡ left_with held e)
+        → IfOk answer (λ id. Inserts v form id w)
+    inserts (Ok id) inserted more =
+        let e : Entered = entered id inserted.fresh form in
+        record {
+          old = old;
+          new = new;
+          found = found;
+          inserted = inserted;
+          legal = legal;
+          known = more e (inserted.log ∙ ap (λ (u : View Entered). u.seen ++ e ∷ []) (sym holds)) ∙ ap (λ (u : View Entered). left_with u e) holds;
+        }
+    inserts (Err e) inserted more = tt

@@ -1,0 +1,27 @@
+use Rattle.hc_turn.specs.Passes.{known, seen, kept}
+use Rattle.hc_dbstate.specs.History.{log}
+use Rattle.hc_db.specs.Inserting.{Finds}
+use Rattle.hc_db.proofs.Turns.{known_below, grows, adds, inserts}
+use Rattle.hc_db.proofs.db.Db.insert.Goals as goal
+
+pub insert-answer-requires : goal.insert-answer-requires
+insert-answer-requires g c =
+    let h = c.enter-state.result.state in
+    let forms = c.logs_name_entries.ensures.forms in
+    let entered = c.enter-state.ensures in
+    record { kids = known_below h (λ e. forms h e c.legal.ensures) (known c.args.pass.now) c.args.form entered.seen entered.kept c.requires.kids }
+
+pub returns-clause-seen : goal.returns-clause-seen
+returns-clause-seen g c =
+    let old = c.enter-state.result.state in
+    let new = c.insert-answer.new.self in
+    let insert = c.insert-answer.ensures in
+    grows (seen c.args.pass.now) (log old) (log new) (seen c.leave.new.pass) (kept c.args.pass.now) c.leave.ensures.seen
+    (adds old new c.args.form c.insert-answer.result insert.ok insert.same) c.enter-state.ensures.seen c.enter-state.ensures.kept
+
+pub returns-clause-ok : goal.returns-clause-ok
+returns-clause-ok g c =
+    let old = c.enter-state.result.state in
+    let found : Finds (known c.args.pass.now) old = record { legal = c.legal.ensures; seen = c.enter-state.ensures.seen; kept = c.enter-state.ensures.kept } in
+    inserts old c.insert-answer.new.self c.args.form _ (known c.enter-state.new.pass) (known c.leave.new.pass) found c.legal-2.ensures c.enter-state.ensures.pass
+    c.insert-answer.result c.insert-answer.ensures.ok c.leave.ensures.more

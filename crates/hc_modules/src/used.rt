@@ -1,7 +1,7 @@
 //! The entries that an entry uses.
-ghost use Rattle.std.specs.Prelude.{◌≡◌, ◌↔◌, ◌<◌, ◌⊎◌, ℕ, length, IfOk, true, false};
+ghost use Rattle.std.specs.Prelude.{◌≡◌, ◌↔◌, ◌<◌, length, replicate, IfOk, true, false};
 ghost use Rattle.hc_canon.specs.declared.form.EntryId.{EntryId};
-ghost use Rattle.hc_modules.specs.Uses.{AreUses, IsMarked};
+ghost use Rattle.hc_modules.specs.Uses.{AreUses, IsMarked, with_mark, with_marks};
 ghost use Rattle.hc_signal.specs.Member.{Has};
 
 use hc_canon::EntryId;
@@ -11,30 +11,23 @@ use std::alloc::Global;
 
 /// Marks that are all off.
 fn unmarked(alloc: Global, len: usize) -> Result<Vec<bool>, NoMemory>
-    ensures len { IfOk result (λ marks. length marks.items ≡ len) }
-    ensures off { IfOk result (λ marks. (id : EntryId) → ¬ IsMarked marks.items id) }
+    ensures { IfOk result (λ marks. marks.items ≡ replicate len false) }
 {
-    let mut marks = Vec::with_capacity(alloc, len)?;
-    while marks.len() < len {
-        marks.push(false)?;
-    }
-    Ok(marks)
+    Ok(vec![in alloc; false; len]?)
 }
 
 /// Marks an entry.
-fn mark(marks: &mut [bool], id: EntryId)
-    requires { id.0 < length marks.old }
-    ensures len { length marks.new ≡ length marks.old }
-    ensures marked { (k : EntryId) → IsMarked marks.new k ↔ (IsMarked marks.old k ⊎ (k ≡ id)) }
+fn mark(marks: &mut Vec<bool>, id: EntryId)
+    requires { id.0 < length marks.old.items }
+    ensures { marks.new.items ≡ with_mark marks.old.items id }
 {
     marks[id.0] = true;
 }
 
 /// Marks entries.
-fn mark_all(marks: &mut [bool], ids: &[EntryId])
-    requires { (id : EntryId) → Has ids.now id → id.0 < length marks.old }
-    ensures len { length marks.new ≡ length marks.old }
-    ensures marked { (k : EntryId) → IsMarked marks.new k ↔ (IsMarked marks.old k ⊎ Has ids.now k) }
+fn mark_all(marks: &mut Vec<bool>, ids: &[EntryId])
+    requires { (id : EntryId) → Has ids.now id → id.0 < length marks.old.items }
+    ensures { marks.new.items ≡ with_marks marks.old.items ids.now }
 {
     'ids: for id in ids {
         mark(marks, *id);
@@ -57,9 +50,9 @@ pub(crate) fn used_entries(alloc: Global, db: &DbState, top: EntryId) -> Result<
     ensures { IfOk result (λ marks. AreUses db.now.entries top marks.items) }
 {
     db.legal();
-    let mut marks = unmarked(alloc, top.0 + 1)?;
+    let mut marks = unmarked(alloc, db.len())?;
     mark(&mut marks, top);
-    let mut place = top.0 + 1;
+    let mut place = db.len();
     while place > 0 {
         place -= 1;
         let id = EntryId(place);

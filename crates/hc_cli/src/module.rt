@@ -8,7 +8,7 @@ ghost use Rattle.hc_cli.specs.Due.{HasNoModule, HasNoSmallText, HasNoText, IsCir
 use crate::circuit::circuit_of;
 use hc_canon::canon;
 use hc_check::{CheckStop, check};
-use hc_fault::{ItemList, Name, NoMemory};
+use hc_fault::{Name, NoMemory};
 use hc_lang::{Small, SmallCircuit, first, first_form_has_one_design};
 use hc_names::Names;
 use hc_signal::{BuildStop, Circuit};
@@ -22,10 +22,7 @@ fn text_of(alloc: Global, circuit: &Circuit, name: &Name) -> Result<Vec<u8>, NoM
     ensures { IfOk result (λ text. IsTreeText (leaf circuit.now) (λ i. []) name.now text.items) }
 {
     let form = canon(alloc, circuit, &[])?;
-    let names = Names {
-        rows: ItemList::new(alloc),
-    };
-    module_text(alloc, &form, name, &names)
+    module_text(alloc, &form, name, &Names::new(alloc))
 }
 
 /// The module of a circuit, or none where it breaks a rule.

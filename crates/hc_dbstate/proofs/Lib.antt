@@ -4,3 +4,4 @@ pub mod Replayed
 pub mod Unfolded
 pub mod Denoted
 pub mod Indexed
+pub mod Walks

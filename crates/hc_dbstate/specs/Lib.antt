@@ -2,3 +2,4 @@ pub mod History
 pub mod Insertion
 pub mod Places
 pub mod Unfolding
+pub mod Elaboration

@@ -45,6 +45,13 @@ impl DbState {
         let _ = &self.entries;
     }
 
+    /// How many entries there are.
+    pub fn len(&self) -> usize
+        ensures { result ≡ length self.now.entries }
+    {
+        self.entries.len()
+    }
+
     /// The form of an entry.
     pub fn get(&self, id: EntryId) -> &Form
         requires { id.0 < length self.now.entries }

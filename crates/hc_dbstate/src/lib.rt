@@ -2,11 +2,13 @@
 #![tactic(auto)]
 
 mod database;
+mod hier;
 mod insert;
 mod laws;
 mod turns;
 
 pub use database::DbState;
+pub use hier::{Hier, walks_are_whole};
 pub use laws::{
     entries_grow_with_the_log, entries_unfold_once, logs_name_entries, logs_replay,
     made_forms_tell_trees_apart, unfoldings_are_of_kids,

@@ -25,8 +25,8 @@ pub fn module_text(
     name: &Name,
     names: &Names,
 ) -> Result<Vec<u8>, NoMemory>
-    requires { AreNamed names.now.rows form.now.kids }
-    ensures { IfOk result (λ text. IsFormText form.now names.now.rows name.now text.items) }
+    requires { AreNamed names.now form.now.kids }
+    ensures { IfOk result (λ text. IsFormText form.now names.now name.now text.items) }
 {
     let tables = Tables::of(alloc, form)?;
     let mut out = Vec::new(alloc);
@@ -43,7 +43,7 @@ fn push_module(
     tables: &Tables,
 ) -> Result<(), NoMemory>
     requires { AreTables form.now.circuit tables.now }
-    ensures { OnOk result (out.new.items ≡ out.old.items ++ lines_text (module_lines (name_by tables.now.names) form.now.circuit (module_of modules.now.rows form.now.kids) title.now)) }
+    ensures { OnOk result (out.new.items ≡ out.old.items ++ lines_text (module_lines (name_by tables.now.names) form.now.circuit (module_of modules.now form.now.kids) title.now)) }
 {
     form.canonical();
     let circuit = form.circuit();

@@ -137,7 +137,7 @@ fn push_start(out: &mut Vec<u8>, module: &[u8], name: &[u8]) -> Result<(), NoMem
 /// The name of the module of an entry; empty where it has none.
 #[tactic(auto, unfolding(crate::specs::ModuleText::module_of))]
 fn module_name<'a>(modules: &'a Names, kids: &[EntryId], place: usize) -> &'a [u8]
-    ensures { result.now ≡ module_of modules.now.rows kids.now place }
+    ensures { result.now ≡ module_of modules.now kids.now place }
 {
     match kids.get(place) {
         Some(kid) => match modules.of(*kid) {
@@ -180,7 +180,7 @@ pub(crate) fn push_instances(
     kids: &[EntryId],
     instances: &[Instance],
 ) -> Result<(), NoMemory>
-    ensures { OnOk result (out.new.items ≡ out.old.items ++ lines_text (all_instance_lines (name_by names.now) (module_of modules.now.rows kids.now) (result_name (name_by names.now) results.now.entries) (enumerate_from 0 instances.now))) }
+    ensures { OnOk result (out.new.items ≡ out.old.items ++ lines_text (all_instance_lines (name_by names.now) (module_of modules.now kids.now) (result_name (name_by names.now) results.now.entries) (enumerate_from 0 instances.now))) }
 {
     for (place, instance) in instances.iter().enumerate() {
         let module = module_name(modules, kids, place);

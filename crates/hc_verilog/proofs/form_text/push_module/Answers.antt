@@ -16,7 +16,7 @@ returns c =
     let g = c.args.form.now.circuit in
     let name = name_by c.args.tables.now.names in
     written_seven c.push.result _ _ _ _ _ _ _ _ _ _ _ _ _ _ _ _
-    (module_by name g _ (module_of c.args.modules.now.rows c.args.form.now.kids) _ c.args.title.now _ _ _ _ _ _
+    (module_by name g _ (module_of c.args.modules.now c.args.form.now.kids) _ c.args.title.now _ _ _ _ _ _
     c.circuit-circuit.ensures
     (inner_by_marks g _ c.first_place-first.result c.numbered_rows-rows.result.now (subst (AreMarks g) (sym c.as_slice.ensures.value) c.requires.marks) c.first_place-first.ensures c.numbered_rows-rows.ensures.rows)
     (ap₂ enumerate_from c.first_place-first.ensures c.numbered_rows-rows.ensures.rows)
@@ -24,6 +24,6 @@ returns c =
     (c.memories-2.ensures ∙ ap (λ x. x.memories) c.circuit-circuit.ensures)
     (c.instances.ensures ∙ ap (λ x. x.instances) c.circuit-circuit.ensures)
     (results_named name g c.args.tables.now.results.entries c.requires.results)
-    (ap (module_of c.args.modules.now.rows) c.kids.ensures))
+    (ap (module_of c.args.modules.now) c.kids.ensures))
     c.in_ok-push_header.ensures c.in_ok-push_declarations.ensures c.in_ok-push_memories.ensures c.in_ok-push_items.ensures c.in_ok-push_memory_blocks.ensures c.in_ok-push_instances.ensures
     c.push.ensures

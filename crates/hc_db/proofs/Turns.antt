@@ -1,10 +1,8 @@
--- A turn in which a form is inserted.
-use Rattle.std.proofs.Common.{◌≡◌, ◌<◌, inl, inr, refl, sym, ap, ◌∙◌, subst, ⊎_elim, List, [], ◌∷◌, ◌++◌, length, append_assoc, append-nil}
-use Rattle.std.specs.Prelude.{slice_get, Some, Result, Ok, Err, IfOk, OnErr, All}
-use Rattle.std.proofs.lemmas.Option.{slice_get_within}
-use Rattle.std.proofs.lemmas.List.Elements.{All-head, All-tail, All-weaker}
+-- What a turn in which a form is inserted does to the log and to the pass.
+use Rattle.std.proofs.Common.{◌≡◌, inl, inr, refl, sym, ap, ◌∙◌, subst, List, [], ◌∷◌, ◌++◌, append_assoc, append-nil}
+use Rattle.std.specs.Prelude.{Result, Ok, Err, IfOk, OnErr}
+use Rattle.std.proofs.lemmas.List.Elements.{All-weaker}
 use mathlib.Core.List.{IsPrefix}
-use Rattle.hc_signal.specs.Member.{Has, first, later}
 use Rattle.hc_canon.specs.declared.form.EntryId.{EntryId}
 use Rattle.hc_canon.specs.FormView.{FormView}
 use Rattle.hc_dbstate.specs.declared.turns.Entered.{Entered}
@@ -12,37 +10,11 @@ use Rattle.hc_dbstate.specs.History.{History, IsLegal, log, entered}
 use Rattle.hc_dbstate.specs.Insertion.{IsInserted}
 use Rattle.hc_turn.specs.declared.view.View.{View}
 use Rattle.hc_turn.specs.Views.{ArePrefixesOf, AddsAtMostOne, after_enter, left_with}
-use Rattle.hc_db.specs.Inserting.{Names, KnowsKids, Finds, Inserts}
-
-module _ {X : Type 0} where
-  has_left : (xs ys : List X) (x : X) → Has xs x → Has (xs ++ ys) x
-  has_left [] ys x h = elim h [ ]
-  has_left (y ∷ xs) ys x first = first
-  has_left (y ∷ xs) ys x (later h) = later (has_left xs ys x h)
-
-  All-has : (P : X → Type 0) (xs : List X) (x : X) → All P xs → Has xs x → P x
-  All-has P [] x all h = elim h [ ]
-  All-has P (y ∷ xs) x all first = All-head P y xs all
-  All-has P (y ∷ xs) x all (later h) = All-has P xs x (All-tail P y xs all) h
+use Rattle.hc_db.specs.Inserting.{Finds, Inserts}
 
 pub log_nothing : log (record { entries = []; turns = [] }) ≡ []
 unfolding log
 log_nothing = refl
-
-module _ (h : History) (forms : (e : Entered) → Has (log h) e → slice_get h.entries e.entry.0 ≡ Some e.form) where
-  named_below : (turns : List Entered) (id : EntryId) → IsPrefix turns (log h) → Names turns id → id.0 < length h.entries
-  named_below turns id begins named =
-      let e = named.0 in
-      let among : Has (log h) e = subst (λ l. Has l e) begins.1 (has_left turns begins.0 e named.1) in
-      subst (λ (k : EntryId). k.0 < length h.entries) named.2 (slice_get_within h.entries e.entry.0 e.form (forms e among))
-
-  -- an entry that a pass knows is there
-  pub known_below : (v : View Entered) (form : FormView) → IsPrefix v.seen (log h) → ArePrefixesOf (log h) v.kept → KnowsKids v form → (id : EntryId) → Has form.kids id → id.0 < length h.entries
-  known_below v form seen kept knows id kid =
-      ⊎_elim
-      (λ (named : Names v.seen id). named_below v.seen id seen named)
-      (λ (found : (turns : List Entered) × Has v.kept turns × Names turns id). named_below found.0 id (All-has (λ turns. IsPrefix turns (log h)) v.kept found.0 kept found.1) found.2)
-      (knows id kid)
 
 module _ {X : Type 0} where
   prefix_through : (xs ys zs : List X) → IsPrefix xs ys → IsPrefix ys zs → IsPrefix xs zs

@@ -8,8 +8,9 @@ ghost use Rattle.hc_db.specs.Database.{lock_of};
 ghost use Rattle.hc_db.specs.Inserting.{KnowsKids, Inserts, InsertsNothing};
 
 use crate::kept::Kept;
+use crate::laws::known_entries_are_there;
 use hc_canon::{EntryId, Form};
-use hc_dbstate::{DbState, logs_name_entries};
+use hc_dbstate::DbState;
 use hc_fault::NoMemory;
 use hc_turn::TurnLock;
 use std::alloc::Global;
@@ -18,10 +19,10 @@ use std::sync::Wait;
 /// The right of one thread to insert, with the turns that it has seen and the places of its own turns.
 pub type Pass = hc_turn::Pass<Kept>;
 
-/// Entries and turns that threads share.
+/// Entries and turns under a turn lock, for threads to share. Each insertion is one turn.
 #[derive(Drop)]
 pub struct Db {
-    pub(crate) lock: TurnLock<Kept>,
+    lock: TurnLock<Kept>,
 }
 
 impl Db {
@@ -39,10 +40,10 @@ impl Db {
     }
 
     /// Takes a turn, in which it inserts the form, and answers the entry that is equal to it, or else the next place, where
-    /// the form then stands. The turn is added to the log, behind all that the pass had seen or kept. It waits until no
-    /// other pass has the turn.
+    /// the form then stands. The log that the pass has then seen begins with all that it had seen or kept, and ends with this
+    /// insertion, whose place is the pass's own. It waits until no other pass has the turn.
     ///
-    /// It is refused only for want of memory. Then the form comes back and no turn is added, and the pass has seen the log.
+    /// It is refused only for want of memory. Then the form comes back and the call adds no turn, but the pass has seen the log.
     pub fn insert<R: Wait>(
         &self,
         rt: &R,
@@ -62,7 +63,7 @@ impl Db {
     {
         let Kept { mut state } = self.lock.enter(rt, pass);
         state.legal();
-        logs_name_entries();
+        known_entries_are_there();
         let answer = state.insert(form);
         state.legal();
         self.lock.leave(rt, Kept { state }, pass);

@@ -3,8 +3,10 @@
 
 mod db;
 mod kept;
+mod laws;
 #[cfg(test)]
 mod tests;
 
 pub use db::{Db, Pass};
 pub use kept::Kept;
+pub use laws::{known_entries_are_there, known_entries_stay_known};

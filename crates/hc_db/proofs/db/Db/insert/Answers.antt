@@ -1,15 +1,14 @@
 use Rattle.hc_turn.specs.Passes.{known, seen, kept}
 use Rattle.hc_dbstate.specs.History.{log}
 use Rattle.hc_db.specs.Inserting.{Finds}
-use Rattle.hc_db.proofs.Turns.{known_below, grows, adds, inserts}
+use Rattle.hc_db.proofs.Turns.{grows, adds, inserts}
 use Rattle.hc_db.proofs.db.Db.insert.Goals as goal
 
 pub insert-answer-requires : goal.insert-answer-requires
 insert-answer-requires g c =
-    let h = c.enter-state.result.state in
-    let forms = c.logs_name_entries.ensures.forms in
-    let entered = c.enter-state.ensures in
-    record { kids = known_below h (λ e. forms h e c.legal.ensures) (known c.args.pass.now) c.args.form entered.seen entered.kept c.requires.kids }
+    let old = c.enter-state.result.state in
+    let found : Finds (known c.args.pass.now) old = record { legal = c.legal.ensures; seen = c.enter-state.ensures.seen; kept = c.enter-state.ensures.kept } in
+    record { kids = λ id kid. c.known_entries_are_there.ensures (known c.args.pass.now) old id found (c.requires.kids id kid) }
 
 pub returns-clause-seen : goal.returns-clause-seen
 returns-clause-seen g c =

@@ -1,4 +1,4 @@
-ghost use Rattle.std.specs.Prelude.{◌≡◌, ◌++◌, ◌∷◌, [], None, IfOk, OnOk, OnErr, slice_get};
+ghost use Rattle.std.specs.Prelude.{◌≡◌, ◌++◌, ◌∷◌, [], None, IfOk, OnOk, OnErr, length, slice_get};
 ghost use Rattle.std.specs.Option.{option_copied};
 ghost use Rattle.hc_names.specs.NameRows.{name_of_entry, numbered_rows, row_of};
 
@@ -50,6 +50,13 @@ impl Names {
         add(&mut self.rows, id, name)
     }
 
+    /// How many rows there are. It takes no memory.
+    pub fn len(&self) -> usize
+        ensures { result ≡ length self.now }
+    {
+        len(&self.rows)
+    }
+
     /// The row at a place. It takes no memory.
     pub fn row(&self, place: usize) -> Option<(EntryId, &Name)>
         ensures { row_of result ≡ slice_get self.now place }
@@ -75,6 +82,14 @@ fn add(rows: &mut IndexMap<usize, Name>, id: EntryId, name: Name) -> Result<(), 
 {
     rows.insert(id.0, name)?;
     Ok(())
+}
+
+/// How many rows a table has.
+#[tactic(auto, using(crate::proofs::Rows::rows_length))]
+fn len(rows: &IndexMap<usize, Name>) -> usize
+    ensures { result ≡ length (numbered_rows rows.now.entries) }
+{
+    rows.len()
 }
 
 /// The row at a place.

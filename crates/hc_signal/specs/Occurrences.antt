@@ -32,7 +32,7 @@ row_at t s = slice_get (graph_at t s.path).nodes s.node
 abbrev pub IsReachedOccurrence : Tree → Occurrence → Type 0
 IsReachedOccurrence t s = IsReachedPath t s.path × Reached (graph_at t s.path) (node s.node)
 
--- the node at a spot
+-- the node of an occurrence
 abbrev pub NodeIs : Tree → List ℕ → ℕ → Node → Type 0
 NodeIs t path n x = (row : NodeRow) × (slice_get (graph_at t path).nodes n ≡ Some row) × (row.node ≡ x)
 
@@ -59,14 +59,14 @@ connection_of (Some it) port = slice_get it.conns port
 abbrev pub connection : Graph → ℕ → ℕ → Option NodeId
 connection g i port = connection_of (slice_get g.instances i) port
 
--- From a spot to one that it is computed from in the same cycle. An instance output passes on the wire
+-- From an occurrence to one that it is computed from in the same cycle. An instance output passes on the wire
 -- of the inner output, and an input below the top the connection of its instance.
 pub data CombStep (t : Tree) : (path : List ℕ) (n : ℕ) (to : List ℕ) (m : ℕ) → Type 0 where
   inside : {path : List ℕ} {n m : ℕ} (x : Node) → NodeIs t path n x → Has (comb_fanin x) (record { 0 = m }) → CombStep t path n path m
   down : {path : List ℕ} {n m i : ℕ} (port : ℕ) → NodeIs t path n (InstOut (record { 0 = i }) port) → slice_get (graph_at t (i ∷ path)).outputs port ≡ Some (record { 0 = m }) → CombStep t path n (i ∷ path) m
   up : {path : List ℕ} {n m i : ℕ} (port : ℕ) → NodeIs t (i ∷ path) n (Input port) → connection (graph_at t path) i port ≡ Some (record { 0 = m }) → CombStep t (i ∷ path) n path m
 
--- the spots that a walk from the first one comes to
+-- the occurrences that a walk from the first one comes to
 pub data CombPath (t : Tree) : (path : List ℕ) (n : ℕ) (to : List ℕ) (m : ℕ) → Type 0 where
   here : {path : List ℕ} {n : ℕ} → CombPath t path n path n
   on : {path mid to : List ℕ} {n k m : ℕ} → CombStep t path n mid k → CombPath t mid k to m → CombPath t path n to m
@@ -88,7 +88,7 @@ is_port_alias path other = false
 abbrev pub IsFlatNode : Tree → Occurrence → Type 0
 IsFlatNode t s = IsReachedOccurrence t s × ((row : NodeRow) × (row_at t s ≡ Some row) × (is_port_alias s.path row.node ≡ false))
 
--- The flat node that a spot stands for: itself, or what it passes on, in turn.
+-- The flat node that an occurrence stands for: itself, or what it passes on, in turn.
 pub data ResolvesTo (t : Tree) : (path : List ℕ) (n : ℕ) (to : List ℕ) (m : ℕ) → Type 0 where
   itself : {path : List ℕ} {n : ℕ} → IsFlatNode t (record { path = path; node = n }) → ResolvesTo t path n path n
   passed : {path mid to : List ℕ} {n k m : ℕ} (x : Node) → NodeIs t path n x → is_port_alias path x ≡ true → CombStep t path n mid k → ResolvesTo t mid k to m → ResolvesTo t path n to m

@@ -13,3 +13,6 @@ pub use signal::{
     Ids, InstId, Instance, MemId, Memory, Node, NodeId, NodeRow, Op2, Port, Ports, WritePort,
 };
 pub use stop::BuildStop;
+
+#[cfg(test)]
+mod tests;

@@ -78,7 +78,7 @@ closed : (h : Hier) → IsClosed (hier_view h)
 closed = ind-Hier (λ h. IsClosed (hier_view h)) (λ x y is.
     subst IsClosed (sym (fold-roll-Hier HierView hier_level x))
     (level_closed x.kids (call_level (map-Hier Hier HierView hier_view x)) refl
-     (subst (λ (z : Hier-F Hier). (call : CallView) (kid : CallRow) → Has (flat_map calls_of (map hier_view z.kids)) call → Has call.kids kid → Among (flat_map calls_of (map hier_view z.kids)) kid) is (kids_closed y.kids))))
+    (subst (λ (z : Hier-F Hier). (call : CallView) (kid : CallRow) → Has (flat_map calls_of (map hier_view z.kids)) call → Has call.kids kid → Among (flat_map calls_of (map hier_view z.kids)) kid) is (kids_closed y.kids))))
 
 pub has_kids : (h : Hier) (call : CallView) (kid : CallRow) → Has (walk h) call → Has call.kids kid → (other : CallView) × Has (walk h) other × (other.own ≡ kid)
 has_kids h = closed h

@@ -44,8 +44,8 @@ times_has id (k ∷ kids) le = by (λ more. times_has id kids more) (k.entry.0 =
         let j = more (omega (arith, n, le)) in (j.0, later j.1, j.2)
 
 module _ (entries : List FormView) (h : Hier) (over : IsElaboration entries h)
-  (own : (calls : List CallView) × (last : CallView) × (walk h ≡ calls ++ last ∷ []) × (last.own ≡ (hier_view h).own))
-  (kids : (call : CallView) (row : CallRow) → Has (walk h) call → Has call.kids row → (other : CallView) × Has (walk h) other × (other.own ≡ row)) where
+    (own : (calls : List CallView) × (last : CallView) × (walk h ≡ calls ++ last ∷ []) × (last.own ≡ (hier_view h).own))
+    (kids : (call : CallView) (row : CallRow) → Has (walk h) call → Has call.kids row → (other : CallView) × Has (walk h) other × (other.own ≡ row)) where
   abbrev pub IsCalled : EntryId → Type 0
   IsCalled id = (call : CallView) × Has (walk h) call × (call.own.entry ≡ id)
 
@@ -80,6 +80,9 @@ module _ (entries : List FormView) (h : Hier) (over : IsElaboration entries h)
   all_there rows named id used =
       let c = called id used in
       let o = over.calls c.0 c.1 in
-      let at : slice_get entries id.0 ≡ Some o.form = ap (λ (e : EntryId). slice_get entries e.0) (sym c.2) ∙ o.found in
-      (o.form, at, λ next has.
-       let d = called next (kid o.form used at has) in subst (λ (e : EntryId). IsSome (name_of_entry rows e)) d.2 (named d.0 d.1))
+      let at : slice_get entries id.0 ≡ Some o.form = ap (λ (e : EntryId). slice_get entries e.0) (sym c.2) ∙ o.found in (
+        o.form,
+        at,
+        λ next has.
+            let d = called next (kid o.form used at has) in subst (λ (e : EntryId). IsSome (name_of_entry rows e)) d.2 (named d.0 d.1),
+      )

@@ -41,8 +41,8 @@ module _ (entries : List FormView) (top : EntryId) (rows : List NameRow) where
   prints_row place first out new row form at uses found (text, is, made) p = record {
     texts = p.texts ++ text ∷ [];
     rest = λ more h. subst (AreTexts entries top rows rows) (sym (append_assoc p.texts (text ∷ []) more))
-      (p.rest (text ∷ more) (subst (λ (left : List NameRow). AreTexts entries top rows left (text ∷ more)) (sym (row_at rows place row at))
-       (inl (uses, (text, more, record { form = form; found = found; text_is = is }, refl, h)))));
+        (p.rest (text ∷ more) (subst (λ (left : List NameRow). AreTexts entries top rows left (text ∷ more)) (sym (row_at rows place row at))
+        (inl (uses, (text, more, record { form = form; found = found; text_is = is }, refl, h)))));
     text_is = made ∙ ap (λ (t : List ℕ). t ++ parted first text) p.text_is ∙ ap (λ (b : Bool). join_with_byte 10 p.texts ++ parted b text) p.none_yet ∙ sym (join_more p.texts text);
     none_yet = not_empty p.texts text;
   }

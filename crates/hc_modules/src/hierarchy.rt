@@ -85,12 +85,7 @@ fn text_of(
 
 /// The Verilog of a hierarchy whose entries all have names: the modules of the entries that its top uses, in the order
 /// of the names, with an empty line between two.
-pub fn verilog(
-    alloc: Global,
-    db: &DbState,
-    hier: &Hier,
-    names: &Names,
-) -> Result<Vec<u8>, NoMemory>
+pub fn verilog(alloc: Global, db: &DbState, hier: &Hier, names: &Names) -> Result<Vec<u8>, NoMemory>
     requires elaboration { IsElaboration db.now.entries hier.now }
     requires named { (call : CallView) → Has (walk hier.now) call → IsSome (name_of_entry names.now call.own.entry) }
     ensures { IfOk result (λ text. IsHierarchyText db.now.entries (hier_view hier.now).own.entry names.now text.items) }

@@ -17,8 +17,8 @@ Leads left kids rows now = (end : List NameRow) → NamesTo now (requests (flat_
 pub kids_more : (kids : List Hier) (i : ℕ) (kid : Hier) (rows now after : List NameRow) → i < length kids → kid ≡ get_or kids i kid → Leads (drop i kids) kids rows now → NamesTo now (requests (walk kid)) after → Leads (drop (i + 1) kids) kids rows after
 kids_more kids i kid rows now after lt is leads one end rest =
     leads end (subst (λ (calls : List CallView). NamesTo now (requests calls) end) (sym next)
-     (subst (λ (calls : List NameRow). NamesTo now calls end) (sym (map-append _ (walk kid) (flat_map walk (drop (i + 1) kids))))
-      (names_on (requests (walk kid)) (requests (flat_map walk (drop (i + 1) kids))) now after end one rest)))
+    (subst (λ (calls : List NameRow). NamesTo now calls end) (sym (map-append _ (walk kid) (flat_map walk (drop (i + 1) kids))))
+    (names_on (requests (walk kid)) (requests (flat_map walk (drop (i + 1) kids))) now after end one rest)))
   where
     next : flat_map walk (drop i kids) ≡ walk kid ++ flat_map walk (drop (i + 1) kids)
     next = at_drop_more (flat_map walk) kids i kid lt ∙ ap (λ (k : Hier). walk k ++ flat_map walk (drop (i + 1) kids)) (sym is)
@@ -37,4 +37,4 @@ pub kids_done : (h : Hier) (kids : List Hier) (i : ℕ) (rows now after : List N
 kids_done h kids i rows now after le is leads own =
     subst (λ (calls : List NameRow). NamesTo rows calls after) (sym (walk_is h ∙ ap (λ (ks : List Hier). requests (flat_map walk ks) ++ ((out-Hier h).entry, (out-Hier h).name) ∷ []) (sym is)))
     (names_on (requests (flat_map walk kids)) (((out-Hier h).entry, (out-Hier h).name) ∷ []) rows now after
-     (leads now (subst (λ (left : List Hier). NamesTo now (requests (flat_map walk left)) now) (sym (drop_of_length-le kids le)) refl)) own)
+    (leads now (subst (λ (left : List Hier). NamesTo now (requests (flat_map walk left)) now) (sym (drop_of_length-le kids le)) refl)) own)

@@ -9,7 +9,7 @@ pub loop-place-init : goal.loop-place-init
 loop-place-init c =
     subst (AreUsesAbove c.args.db.now.entries c.args.top c.mark.new.marks.items) (sym c.len-place.ensures)
     (starts c.args.db.now.entries c.args.top c.mark.new.marks.items c.requires
-     (c.mark.ensures ∙ ap (λ (marks : List Bool). with_mark marks c.args.top) (c.in_ok-marks.ensures ∙ ap (λ (n : ℕ). replicate n false) c.len.ensures)))
+    (c.mark.ensures ∙ ap (λ (marks : List Bool). with_mark marks c.args.top) (c.in_ok-marks.ensures ∙ ap (λ (n : ℕ). replicate n false) c.len.ensures)))
 
 pub loop-place-preserved-then-is_marked : goal.loop-place-preserved-then-is_marked
 loop-place-preserved-then-is_marked c =

@@ -8,3 +8,6 @@ mod used;
 pub use names::Names;
 pub use naming::assign;
 pub use used::{Used, names_are_single};
+
+#[cfg(test)]
+mod tests;

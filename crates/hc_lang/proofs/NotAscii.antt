@@ -110,7 +110,9 @@ bad_is n (l ∷ ls) m e = by (λ h. bad_is (suc n) ls m h) (is_good l) refl e
     by rest true f e =
         let b = rest e in
         record {
-          i = suc b.i; line = b.line; is = (let h : m ≡ b.i + suc n = b.is in omega arith);
+          i = suc b.i;
+          line = b.line;
+          is = (let h : m ≡ b.i + suc n = b.is in omega arith);
           earliest = record { before = l ∷ b.earliest.before; after = b.earliest.after; place = ap suc b.earliest.place; parts = ap (λ x. l ∷ x) b.earliest.parts; holds = b.earliest.holds; none_before = ((λ bad. let clash : false ≡ true = sym (ap not f) ∙ bad in absurd cc), b.earliest.none_before) };
         }
     by rest false f e = record { i = 0; line = l; is = (let k : n ≡ m = cc in let z : n ≡ 0 + n = omega arith in sym k ∙ z); earliest = record { before = []; after = ls; place = refl; parts = refl; holds = ap not f; none_before = tt } }

@@ -150,14 +150,17 @@ at_else : (most : ℕ) (rows : List Row) (cs : List CircuitText) (m : ℕ) (v : 
 at_else most rows cs m v qs hs k (opening.If c) before bs ss n q h e =
     let b = h.in_blocks in
     let o = b.4 in
-    subst (λ q. Next most rows (k ∷ map block_line bs) (n, g.Else) q) (is_some (outline cs (place.Circuit (circuit m v qs hs (block k (opening.Else c ss) before ∷ bs) []))) q e)
-      (record {
+    subst (λ q. Next most rows (k ∷ map block_line bs) (n, g.Else) q) (is_some (outline cs (place.Circuit (circuit m v qs hs (block k (opening.Else c ss) before ∷ bs) []))) q e) (
+      record {
         before = h.before;
         body = h.body ++ (n, g.Else) ∷ [];
         parts = parts_more rows h.before (map head_row hs) h.body (m, g.Circuit v qs) (n, g.Else) h.parts;
         are_circuits = h.are_circuits;
         in_blocks = (b.0, b.1 ++ (n, g.Else) ∷ [], ap (λ rs. rs ++ (n, g.Else) ∷ []) b.2 ∙ append_assoc b.0 b.1 ((n, g.Else) ∷ []), b.3, (o.0, [], n, ap (λ rs. rs ++ (n, g.Else) ∷ []) o.1, o.2, r.none));
-      }, refl, λ k. k)
+      },
+      refl,
+      λ k. k,
+    )
 at_else most rows cs m v qs hs k (opening.For w a b) before bs ss n q h e = absurd cc
 at_else most rows cs m v qs hs k (opening.Else c us) before bs ss n q h e = absurd cc
 
@@ -167,64 +170,79 @@ in_place most rows cs m v qs hs (b ∷ bs) ss n (g.Circuit w ps) q h e = absurd 
 in_place most rows cs m v qs hs [] ss n (g.Top w args) q h e = begun most rows (cs ++ closed (circuit m v qs hs [] ss) ∷ []) n (g.Top w args) q (whole rows cs m v qs hs ss h) e
 in_place most rows cs m v qs hs (b ∷ bs) ss n (g.Top w args) q h e = absurd (barred (s.is_none (b ∷ bs)) _ q (some_items b bs) e)
 in_place most rows cs m v qs hs [] [] n (g.Port i w width) q h e =
-    subst (λ q. Next most rows [] (n, g.Port i w width) q) (is_some (outline cs (place.Circuit (circuit m v qs (hs ++ head n i w width ∷ []) [] []))) q e)
-      (record {
+    subst (λ q. Next most rows [] (n, g.Port i w width) q) (is_some (outline cs (place.Circuit (circuit m v qs (hs ++ head n i w width ∷ []) [] []))) q e) (
+      record {
         before = h.before;
         body = [];
         parts = head_parts rows h.before h.body hs (m, g.Circuit v qs) (head n i w width) (no_rows h.in_blocks refl) h.parts;
         are_circuits = h.are_circuits;
         in_blocks = r.none;
-      }, refl, λ k. k)
+      },
+      refl,
+      λ k. k,
+    )
 in_place most rows cs m v qs hs [] (t ∷ ss) n (g.Port i w width) q h e = absurd (not_first (s.is_none (t ∷ ss)) _ _ q (some_items t ss) e)
 in_place most rows cs m v qs hs (b ∷ bs) ss n (g.Port i w width) q h e = absurd (not_first (s.is_none (b ∷ bs) && s.is_none ss) _ _ q (ap (λ t. t && s.is_none ss) (some_items b bs)) e)
 in_place most rows cs m v qs hs bs ss n (g.Simple w) q h e =
-    subst (λ q. Next most rows (map block_line bs) (n, g.Simple w) q) (is_some (outline cs (place.Circuit (circuit m v qs hs bs (ss ++ stmt n w ∷ [])))) q e)
-      (record {
+    subst (λ q. Next most rows (map block_line bs) (n, g.Simple w) q) (is_some (outline cs (place.Circuit (circuit m v qs hs bs (ss ++ stmt n w ∷ [])))) q e) (
+      record {
         before = h.before;
         body = h.body ++ (n, g.Simple w) ∷ [];
         parts = parts_more rows h.before (map head_row hs) h.body (m, g.Circuit v qs) (n, g.Simple w) h.parts;
         are_circuits = h.are_circuits;
         in_blocks = blocks_more h.body ((n, g.Simple w) ∷ []) bs ss (stmt n w ∷ []) h.in_blocks (r.simple n w r.none);
-      }, refl, λ k. k)
+      },
+      refl,
+      λ k. k,
+    )
 in_place most rows cs m v qs hs bs ss n (g.For w a b) q h e =
     let t = chosen (nat_lt (length bs) most) (circuit m v qs hs (block n (opening.For w a b) ss ∷ bs) []) (λ d. outline cs (place.Circuit d)) q e in
-    subst (λ q. Next most rows (map block_line bs) (n, g.For w a b) q) t.1
-      (record {
+    subst (λ q. Next most rows (map block_line bs) (n, g.For w a b) q) t.1 (
+      record {
         before = h.before;
         body = h.body ++ (n, g.For w a b) ∷ [];
         parts = parts_more rows h.before (map head_row hs) h.body (m, g.Circuit v qs) (n, g.For w a b) h.parts;
         are_circuits = h.are_circuits;
         in_blocks = (h.body, (n, g.For w a b) ∷ [], refl, h.in_blocks, ([], refl, r.none));
-      }, refl, λ k. one_deeper most n bs t.0)
+      },
+      refl,
+      λ k. one_deeper most n bs t.0,
+    )
 in_place most rows cs m v qs hs bs ss n (g.If c) q h e =
     let t = chosen (nat_lt (length bs) most) (circuit m v qs hs (block n (opening.If c) ss ∷ bs) []) (λ d. outline cs (place.Circuit d)) q e in
-    subst (λ q. Next most rows (map block_line bs) (n, g.If c) q) t.1
-      (record {
+    subst (λ q. Next most rows (map block_line bs) (n, g.If c) q) t.1 (
+      record {
         before = h.before;
         body = h.body ++ (n, g.If c) ∷ [];
         parts = parts_more rows h.before (map head_row hs) h.body (m, g.Circuit v qs) (n, g.If c) h.parts;
         are_circuits = h.are_circuits;
         in_blocks = (h.body, (n, g.If c) ∷ [], refl, h.in_blocks, ([], refl, r.none));
-      }, refl, λ k. one_deeper most n bs t.0)
+      },
+      refl,
+      λ k. one_deeper most n bs t.0,
+    )
 in_place most rows cs m v qs hs [] ss n g.Else q h e = absurd cc
 in_place most rows cs m v qs hs (b ∷ bs) ss n g.Else q h e = at_else most rows cs m v qs hs b.line b.opening b.before bs ss n q h e
 in_place most rows cs m v qs hs [] ss n g.End q h e = absurd cc
 in_place most rows cs m v qs hs (b ∷ bs) ss n g.End q h e =
-    subst (λ q. Next most rows (b.line ∷ map block_line bs) (n, g.End) q) (is_some (outline cs (place.Circuit (circuit m v qs hs bs (b.before ++ stmt b.line (s.block_of b.opening ss) ∷ [])))) q e)
-      (record {
+    subst (λ q. Next most rows (b.line ∷ map block_line bs) (n, g.End) q) (is_some (outline cs (place.Circuit (circuit m v qs hs bs (b.before ++ stmt b.line (s.block_of b.opening ss) ∷ [])))) q e) (
+      record {
         before = h.before;
         body = h.body ++ (n, g.End) ∷ [];
         parts = parts_more rows h.before (map head_row hs) h.body (m, g.Circuit v qs) (n, g.End) h.parts;
         are_circuits = h.are_circuits;
         in_blocks = blocks_end h.body n b bs ss h.in_blocks;
-      }, refl, λ k. omega arith)
+      },
+      refl,
+      λ k. omega arith,
+    )
 in_place most rows cs m v qs hs bs ss n g.Bench q h e = absurd cc
 in_place most rows cs m v qs hs bs ss n (g.Step w) q h e = absurd cc
 
 at_top : (most : ℕ) (rows : List Row) (cs : List CircuitText) (t : TopLine) (n : ℕ) (l : Line) (q : Outline) → AtTop rows cs t → after_top cs t n l ≡ Some q → 1 ≤ most → Next most rows [] (n, l) q
 at_top most rows cs t n g.Bench q h e some =
     subst (λ q. Next most rows [] (n, g.Bench) q) (is_some (outline cs (place.Bench t n [])) q e)
-      (record { before = h.before; parts = ap (λ rs. rs ++ (n, g.Bench) ∷ []) h.parts ∙ append_assoc h.before (top_row t ∷ []) ((n, g.Bench) ∷ []); are_circuits = h.are_circuits }, refl, λ k. some)
+    (record { before = h.before; parts = ap (λ rs. rs ++ (n, g.Bench) ∷ []) h.parts ∙ append_assoc h.before (top_row t ∷ []) ((n, g.Bench) ∷ []); are_circuits = h.are_circuits }, refl, λ k. some)
 at_top most rows cs t n (g.Circuit w ps) q h e some = absurd cc
 at_top most rows cs t n (g.Top w args) q h e some = absurd cc
 at_top most rows cs t n (g.Port i w width) q h e some = absurd cc
@@ -240,21 +258,27 @@ bench_parts rows before t b y steps e = ap (λ rs. rs ++ y ∷ []) e ∙ append_
 
 at_bench : (most : ℕ) (rows : List Row) (cs : List CircuitText) (t : TopLine) (first : ℕ) (steps : List BenchLine) (n : ℕ) (l : Line) (q : Outline) → InBench rows cs t first steps → in_bench cs t first steps n l ≡ Some q → Next most rows (first ∷ []) (n, l) q
 at_bench most rows cs t first steps n (g.Step w) q h e =
-    subst (λ q. Next most rows (first ∷ []) (n, g.Step w) q) (is_some (outline cs (place.Bench t first (steps ++ bench_line n w ∷ []))) q e)
-      (record {
+    subst (λ q. Next most rows (first ∷ []) (n, g.Step w) q) (is_some (outline cs (place.Bench t first (steps ++ bench_line n w ∷ []))) q e) (
+      record {
         before = h.before;
         parts = bench_parts rows h.before (top_row t) (first, g.Bench) (n, g.Step w) (map step_row steps) h.parts ∙ ap (λ rs. h.before ++ (top_row t ∷ ((first, g.Bench) ∷ rs))) (step_last steps (bench_line n w));
         are_circuits = h.are_circuits;
-      }, refl, λ k. k)
+      },
+      refl,
+      λ k. k,
+    )
 at_bench most rows cs t first steps n g.End q h e =
-    subst (λ q. Next most rows (first ∷ []) (n, g.End) q) (is_some (outline cs (place.End t steps)) q e)
-      (record {
+    subst (λ q. Next most rows (first ∷ []) (n, g.End) q) (is_some (outline cs (place.End t steps)) q e) (
+      record {
         before = h.before;
         first = first;
         last = n;
         parts = bench_parts rows h.before (top_row t) (first, g.Bench) (n, g.End) (map step_row steps) h.parts;
         are_circuits = h.are_circuits;
-      }, refl, λ k. omega arith)
+      },
+      refl,
+      λ k. omega arith,
+    )
 at_bench most rows cs t first steps n (g.Circuit w ps) q h e = absurd cc
 at_bench most rows cs t first steps n (g.Top w args) q h e = absurd cc
 at_bench most rows cs t first steps n (g.Port i w width) q h e = absurd cc

@@ -45,6 +45,7 @@ found_again keys rows i x w ps b added all h is line name so_far new none =
     not_false : (t : Bool) → not t ≡ false → t ≡ true
     not_false true e = refl
     not_false false e = absurd cc
+
     seen : is_among w (map text_at keys) ≡ true
     seen = sym (has-among keys w) ∙ ap (has keys) (sym name) ∙ not_false (has keys b.now) (sym new ∙ none)
 
@@ -61,6 +62,7 @@ found_first keys more rows i x w ps b added all h is line name so_far new one up
     not_true : (t : Bool) → not t ≡ true → t ≡ false
     not_true true e = absurd cc
     not_true false e = refl
+
     unseen : is_among w (map text_at keys) ≡ false
     unseen = sym (has-among keys w) ∙ ap (has keys) (sym name) ∙ not_true (has keys b.now) (sym new ∙ one)
 

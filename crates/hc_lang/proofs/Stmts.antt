@@ -24,15 +24,15 @@ stmts_append more ts (r.choice {inner} {rows} {yes = us} {ss} line last c i h) k
     subst (λ rs. AreStmts ((line, g.If c) ∷ rs) (stmt line (what.If c us []) ∷ (ss ++ ts))) (sym (append_assoc inner ((last, g.End) ∷ rows) more)) (r.choice line last c i (stmts_append more ts h k))
 stmts_append more ts (r.choice_else {inner} {other} {rows} {yes = us} {no = vs} {ss} line middle last c i e h) k =
     subst (λ rs. AreStmts ((line, g.If c) ∷ rs) (stmt line (what.If c us vs) ∷ (ss ++ ts)))
-      (sym (append_assoc inner ((middle, g.Else) ∷ (other ++ ((last, g.End) ∷ rows))) more ∙ ap (λ rs. inner ++ ((middle, g.Else) ∷ rs)) (append_assoc other ((last, g.End) ∷ rows) more)))
-      (r.choice_else line middle last c i e (stmts_append more ts h k))
+    (sym (append_assoc inner ((middle, g.Else) ∷ (other ++ ((last, g.End) ∷ rows))) more ∙ ap (λ rs. inner ++ ((middle, g.Else) ∷ rs)) (append_assoc other ((last, g.End) ∷ rows) more)))
+    (r.choice_else line middle last c i e (stmts_append more ts h k))
 
 pub circuits_append : {rows : List Row} {cs : List CircuitText} (more : List Row) (ds : List CircuitText) → AreCircuits rows cs → AreCircuits more ds → AreCircuits (rows ++ more) (cs ++ ds)
 circuits_append more ds r.none k = k
 circuits_append more ds (r.circuit {body} {rows} {cs} c s h) k =
     subst (λ rs. AreCircuits ((c.line, g.Circuit c.name c.params) ∷ rs) (c ∷ (cs ++ ds)))
-      (sym (append_assoc (map head_row c.heads) (body ++ rows) more ∙ ap (λ rs. map head_row c.heads ++ rs) (append_assoc body rows more)))
-      (r.circuit c s (circuits_append more ds h k))
+    (sym (append_assoc (map head_row c.heads) (body ++ rows) more ∙ ap (λ rs. map head_row c.heads ++ rs) (append_assoc body rows more)))
+    (r.circuit c s (circuits_append more ds h k))
 
 pub one_circuit : (c : CircuitText) (body : List Row) → AreStmts body c.body → AreCircuits ((c.line, g.Circuit c.name c.params) ∷ (map head_row c.heads ++ body)) (c ∷ [])
 one_circuit c body h = subst (λ rs. AreCircuits ((c.line, g.Circuit c.name c.params) ∷ (map head_row c.heads ++ rs)) (c ∷ [])) (append-nil body) (r.circuit c h r.none)
@@ -69,9 +69,9 @@ opened_end n last (opening.If c) rows ss h =
     subst (λ rs. AreStmts (rs ++ ((last, g.End) ∷ [])) (stmt n (what.If c ss []) ∷ [])) (sym h.1) (r.choice n last c h.2 r.none)
 opened_end n last (opening.Else c us) rows ss h =
     subst (λ rs. AreStmts (rs ++ ((last, g.End) ∷ [])) (stmt n (what.If c us ss) ∷ [])) (sym h.3)
-      (subst (λ rs. AreStmts ((n, g.If c) ∷ rs) (stmt n (what.If c us ss) ∷ [])) (sym (append_assoc h.0 ((h.2, g.Else) ∷ h.1) ((last, g.End) ∷ []))) (r.choice_else n h.2 last c h.4 h.5 r.none))
+    (subst (λ rs. AreStmts ((n, g.If c) ∷ rs) (stmt n (what.If c us ss) ∷ [])) (sym (append_assoc h.0 ((h.2, g.Else) ∷ h.1) ((last, g.End) ∷ []))) (r.choice_else n h.2 last c h.4 h.5 r.none))
 
 pub blocks_end : (rows : List Row) (last : ℕ) (b : Block) (bs : List Block) (ss : List Stmt) → InBlocks rows (b ∷ bs) ss → InBlocks (rows ++ ((last, g.End) ∷ [])) bs (b.before ++ stmt b.line (block_of b.opening ss) ∷ [])
 blocks_end rows last b bs ss h =
     subst (λ rs. InBlocks rs bs (b.before ++ stmt b.line (block_of b.opening ss) ∷ [])) (sym (ap (λ rs. rs ++ ((last, g.End) ∷ [])) h.2 ∙ append_assoc h.0 h.1 ((last, g.End) ∷ [])))
-      (blocks_more h.0 (h.1 ++ ((last, g.End) ∷ [])) bs b.before (stmt b.line (block_of b.opening ss) ∷ []) h.3 (opened_end b.line last b.opening h.1 ss h.4))
+    (blocks_more h.0 (h.1 ++ ((last, g.End) ∷ [])) bs b.before (stmt b.line (block_of b.opening ss) ∷ []) h.3 (opened_end b.line last b.opening h.1 ss h.4))

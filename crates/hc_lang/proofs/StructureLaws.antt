@@ -53,7 +53,7 @@ circuits_go : (most : ℕ) → most ≡ 64 → (rows : List Row) (cs : List Circ
 circuits_go most is rows cs h d =
     let more : Depth most (rows ++ (0, g.Top [] []) ∷ []) [] = one_more most rows (0, g.Top [] []) [] [] d refl (omega arith) in
     goes_less rows (0, g.Top [] []) (design_goes (rows ++ (0, g.Top [] []) ∷ []) (design cs (top_line 0 [] []) [])
-      (record { circuits = rows; bench = []; parts = refl; are_circuits = h; is_bench = r.absent; blocks = few most _ _ is more }))
+    (record { circuits = rows; bench = []; parts = refl; are_circuits = h; is_bench = r.absent; blocks = few most _ _ is more }))
 
 circuit_goes : (bs : List Block) (most : ℕ) → most ≡ 64 → 1 ≤ most → (rows : List Row) (cs : List CircuitText) (m : ℕ) (v : Text) (qs : List Text) (hs : List Head) (ss : List Stmt) → Upto most rows (outline cs (place.Circuit (circuit m v qs hs bs ss))) → GoesOn rows
 circuit_goes [] most is some rows cs m v qs hs ss h = circuits_go most is rows (cs ++ closed (circuit m v qs hs [] ss) ∷ []) (whole rows cs m v qs hs ss h.stands) h.depth
@@ -114,10 +114,14 @@ stopped_at most o (x ∷ xs) e h = by (λ p k. stopped_at most p xs e k) (step m
     by rest (Some p) is h =
         let s = rest p h in
         record {
-          before = x ∷ s.before; at = s.at; after = s.after; last = s.last;
+          before = x ∷ s.before;
+          at = s.at;
+          after = s.after;
+          last = s.last;
           parts = ap (λ rs. x ∷ rs) s.parts;
           goes = ap (λ q. and_then (misplaced_at x.0 q) (λ p. steps most p s.before)) is ∙ s.goes;
-          stops = s.stops; is = s.is;
+          stops = s.stops;
+          is = s.is;
         }
 
 upto_all : (most : ℕ) → 1 ≤ most → (more rows : List Row) (o p : Outline) → Upto most rows o → steps most o more ≡ found p → Upto most (rows ++ more) p
@@ -155,12 +159,17 @@ pub stopped_misplaced : (most : ℕ) → most ≡ 64 → 1 ≤ most → (rows : 
 stopped_misplaced most is some rows e h =
     let s = stopped_at most start rows e h in
     let stuck : steps most start (s.before ++ s.at ∷ []) ≡ Err (fault.Misplaced, s.at.0) =
-          steps-append most start s.before (s.at ∷ []) ∙ ap (λ x. and_then x (λ p. steps most p (s.at ∷ []))) s.goes ∙ ap (λ q. and_then (misplaced_at s.at.0 q) (λ p. found p)) s.stops in
-    (ap (λ x. x.0) s.is, subst (IsMisplaced rows) (sym (ap (λ x. x.1) s.is)) (record {
-      before = s.before; line = s.at.1; after = s.after; parts = s.parts;
-      goes_on = placed_goes most is some s.before s.last s.goes;
-      no_further = λ on. let p = goes_placed most is (s.before ++ s.at ∷ []) on in clash p.0 (sym stuck ∙ p.1);
-    }))
+    steps-append most start s.before (s.at ∷ []) ∙ ap (λ x. and_then x (λ p. steps most p (s.at ∷ []))) s.goes ∙ ap (λ q. and_then (misplaced_at s.at.0 q) (λ p. found p)) s.stops in (
+      ap (λ x. x.0) s.is,
+      subst (IsMisplaced rows) (sym (ap (λ x. x.1) s.is)) (record {
+        before = s.before;
+        line = s.at.1;
+        after = s.after;
+        parts = s.parts;
+        goes_on = placed_goes most is some s.before s.last s.goes;
+        no_further = λ on. let p = goes_placed most is (s.before ++ s.at ∷ []) on in clash p.0 (sym stuck ∙ p.1);
+      }),
+    )
   where
     clash : {e : FaultKind × ℕ} (p : Outline) → Err e ≡ found p → ⊥
     clash p h = cc

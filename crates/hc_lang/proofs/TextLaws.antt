@@ -214,12 +214,15 @@ rows_fault most im some text rows e has h = at_steps (stopped (steps most start 
     at_names o s c f (inr x) =
         let u = unfinished (design_of o) e x.1 in
         subst (Faulty text) (sym u.1) (r.no_top rows has (closed_rows most im some rows o s c) f x.0 (ap not (no_design rows o.circuits o.place (upto most some rows o s).stands c u.0)))
+
     at_circuits : (o : Outline) → steps most start rows ≡ found o → open_line o.place ≡ None → Failed fault.RepeatedCircuit (first_repeated [] rows) (and_then (pass fault.ReservedName (first_reserved rows)) (λ w. finished (design_of o))) e → Faulty text e
     at_circuits o s c (inl x) = subst (Faulty text) (sym x.2) (r.repeated x.0 rows has (closed_rows most im some rows o s c) x.1)
     at_circuits o s c (inr x) = at_names o s c x.0 (failed fault.ReservedName (first_reserved rows) (λ w. finished (design_of o)) e x.1)
+
     at_end : (o : Outline) → steps most start rows ≡ found o → Failed fault.Unclosed (open_line o.place) (and_then (pass fault.RepeatedCircuit (first_repeated [] rows)) (λ v. and_then (pass fault.ReservedName (first_reserved rows)) (λ w. finished (design_of o)))) e → Faulty text e
     at_end o s (inl x) = let l = line_open o.place x.0 x.1 in subst (Faulty text) (sym x.2) (r.unclosed x.0 l.0 rows has (placed_goes most im some rows o s) ((upto most some rows o s).depth.are_open ∙ l.1))
     at_end o s (inr x) = at_circuits o s x.0 (failed fault.RepeatedCircuit (first_repeated [] rows) (λ v. and_then (pass fault.ReservedName (first_reserved rows)) (λ w. finished (design_of o))) e x.1)
+
     at_steps : (steps most start rows ≡ Err_ e) ⊎ ((o : Outline) × (steps most start rows ≡ found o) × (ends o rows ≡ Err_ e)) → Faulty text e
     at_steps (inl x) = let m = stopped_misplaced most im some rows e x in subst (λ k. FirstFault text k e.1) (sym m.0) (r.misplaced e.1 rows has m.1)
     at_steps (inr x) = at_end x.0 x.1 (failed fault.Unclosed (open_line x.0.place) (λ u. and_then (pass fault.RepeatedCircuit (first_repeated [] rows)) (λ v. and_then (pass fault.ReservedName (first_reserved rows)) (λ w. finished (design_of x.0)))) e x.2)
@@ -231,6 +234,7 @@ stops_faulty d most is im some text e h = at_bytes (failed fault.NotAscii (bad_l
     at_lines : r.IsAllowed text → (rows_from d 1 (lines text) ≡ Err_ e) ⊎ ((rows : List Row) × (rows_from d 1 (lines text) ≡ found rows) × (of_rows most rows ≡ Err_ e)) → Faulty text e
     at_lines a (inl x) = let s = stuck_earliest d is (lines text) e x in subst (Faulty text) (sym s.2) (r.syntax_fault s.0 s.1 a s.3)
     at_lines a (inr x) = rows_fault most im some text x.0 e (record { allowed = a; are_rows = rows_are d is 1 (lines text) x.0 x.1 }) x.2
+
     at_bytes : Failed fault.NotAscii (bad_line 1 text) (and_then (rows_from d 1 (lines text)) (λ rows. of_rows most rows)) e → Faulty text e
     at_bytes (inl x) = let b = bad_earliest text x.0 x.1 in subst (Faulty text) (sym (x.2 ∙ ap (λ k. (fault.NotAscii, k)) b.2)) (r.not_ascii b.0 b.1 b.3)
     at_bytes (inr x) = at_lines (all_allowed text x.0) (stopped (rows_from d 1 (lines text)) (λ rows. of_rows most rows) e x.1)

@@ -9,10 +9,7 @@ use std::alloc::Global;
 use std::collections::HashSet;
 
 /// The line of the first circuit whose name an earlier one has.
-pub(crate) fn first_repeated(
-    alloc: Global,
-    rows: &[NumberedLine],
-) -> Result<Option<u32>, NoMemory>
+pub(crate) fn first_repeated(alloc: Global, rows: &[NumberedLine]) -> Result<Option<u32>, NoMemory>
     ensures { IfOk result (λ line. line ≡ reads.first_repeated [] rows.now) }
 {
     let mut seen: HashSet<&[u8]> = HashSet::new(alloc);

@@ -86,11 +86,7 @@ fn finished(alloc: Global, outline: Outline) -> Result<Design, TextStop>
 
 /// The design of the rows, or the first fault after the line grammar's.
 #[tactic(auto, unfolding(crate::specs::TextReading::of_rows))]
-fn of_rows(
-    alloc: Global,
-    rows: ItemList<NumberedLine>,
-    most: usize,
-) -> Result<Design, TextStop>
+fn of_rows(alloc: Global, rows: ItemList<NumberedLine>, most: usize) -> Result<Design, TextStop>
     ensures { Gives (λ x. x) result (t.of_rows most rows) }
 {
     let repeated = first_repeated(alloc, rows.as_slice())?;

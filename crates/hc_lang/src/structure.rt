@@ -238,12 +238,7 @@ fn circuit_begun(
     }
 }
 
-fn top_at(
-    circuits: ItemList<CircuitText>,
-    number: u32,
-    name: Name,
-    args: ItemList<Num>,
-) -> Outline
+fn top_at(circuits: ItemList<CircuitText>, number: u32, name: Name, args: ItemList<Num>) -> Outline
     ensures { result ≡ s.top_at circuits number name args }
 {
     Outline {
@@ -363,12 +358,7 @@ fn after_circuit(
     circuit_ended(alloc, circuits, circuit, number, line)
 }
 
-fn bench_begun(
-    alloc: Global,
-    circuits: ItemList<CircuitText>,
-    top: TopLine,
-    number: u32,
-) -> Outline
+fn bench_begun(alloc: Global, circuits: ItemList<CircuitText>, top: TopLine, number: u32) -> Outline
     ensures { result ≡ s.bench_at circuits top number [] }
 {
     Outline {
@@ -428,11 +418,7 @@ fn bench_at(
     }
 }
 
-fn bench_ended(
-    circuits: ItemList<CircuitText>,
-    top: TopLine,
-    steps: ItemList<BenchLine>,
-) -> Outline
+fn bench_ended(circuits: ItemList<CircuitText>, top: TopLine, steps: ItemList<BenchLine>) -> Outline
     ensures { result ≡ s.bench_ended circuits top steps }
 {
     Outline {

@@ -3,8 +3,8 @@ use Rattle.std.proofs.Common.{◌≡◌, ℕ, ◌+◌, ◌<◌, Bool, true, fals
 use Rattle.std.proofs.Math.Seq.{drop-cons}
 use Rattle.std.specs.List.{list_any, AllByRecursion, IsDistinct}
 use Rattle.std.proofs.lemmas.Cmp.{nat_list_eq_equiv}
-use Rattle.hc_lang.specs.Tokens.{same_bytes}
-use Rattle.hc_lang.specs.Grammar.{Text}
+use Rattle.hc_tokens.specs.Tokens.{same_bytes}
+use Rattle.hc_lines.specs.Grammar.{Text}
 use Rattle.hc_lang.specs.FirstForm.{is_among}
 use Rattle.hc_lang.specs.FirstReading.{differ_from}
 
@@ -18,7 +18,7 @@ has keys w = list_any (λ k. same_bytes w k.now) keys
 same_bytes-symm : (v w : Text) → same_bytes v w ≡ same_bytes w v
 same_bytes-symm v w = nat_list_eq_equiv.symm v w
 
-has-among : (keys : List (Bor Text)) (w : Text) → has keys w ≡ is_among w (map text_at keys)
+pub has-among : (keys : List (Bor Text)) (w : Text) → has keys w ≡ is_among w (map text_at keys)
 has-among [] w = refl
 has-among (k ∷ keys) w = ap (λ b. same_bytes w k.now || b) (has-among keys w)
 
@@ -33,7 +33,7 @@ or-cond true c = refl
 or-cond false c = refl
 
 -- the names after the one at i, against those seen and that one
-seen_next : (names keys more : List (Bor Text)) (w : Bor Text) → ((q : Bor Text) → has more q.now ≡ cond (same_bytes w.now q.now) true (has keys q.now)) → (v : Text) → is_among v (w.now ∷ map text_at keys) ≡ is_among v (map text_at more)
+pub seen_next : (names keys more : List (Bor Text)) (w : Bor Text) → ((q : Bor Text) → has more q.now ≡ cond (same_bytes w.now q.now) true (has keys q.now)) → (v : Text) → is_among v (w.now ∷ map text_at keys) ≡ is_among v (map text_at more)
 seen_next names keys more w h v =
     ap (λ b. same_bytes v w.now || b) (sym (has-among keys v))
     ∙ ap (λ b. b || has keys v) (same_bytes-symm v w.now)

@@ -1,5 +1,5 @@
 -- A text is of the first form exactly where a design is read from it.
-use Rattle.std.proofs.Common.{◌≡◌, ℕ, ◌≤◌, true, cond, nat_le, List, length, Option, Some, None, refl, sym, ◌∙◌, ap, subst, arith}
+use Rattle.std.proofs.Common.{◌≡◌, ℕ, ◌≤◌, true, cond, nat_le, List, length, Option, Some, None, Ok, Err, refl, sym, ◌∙◌, ap, subst, arith}
 use Rattle.std.specs.List.{list_all}
 use Rattle.std.proofs.lemmas.List.Sums.{AllPass-from_list_all, list_all-from_AllPass}
 use Rattle.std.proofs.lemmas.Bool.Decides.{nat_tests}
@@ -7,17 +7,18 @@ use Rattle.hc_lang.specs.declared.small.Small.{Small}
 use Rattle.hc_lang.specs.declared.small.SmallCircuit.{SmallCircuit}
 use Rattle.hc_lang.specs.declared.assembly.Stage.{Stage}
 use Rattle.hc_lang.specs.declared.assembly.Stage.TheVariants as stage
-use Rattle.hc_lang.specs.declared.stop.Stop.{Stop}
-use Rattle.hc_lang.specs.declared.stop.Stop.TheVariants.{Syntax, Memory}
-use Rattle.hc_lang.specs.Returns.{Stops}
-use Rattle.hc_lang.specs.Tokens.{tokens, lines, is_allowed}
-use Rattle.hc_lang.specs.Grammar.{Text}
+use Rattle.hc_tokens.specs.declared.stop.Stop.{Stop}
+use Rattle.hc_tokens.specs.declared.stop.Stop.TheVariants.{Syntax, Memory}
+use Rattle.hc_tokens.specs.Returns.{Stops}
+use Rattle.hc_tokens.specs.Tokens.{tokens, lines, is_allowed}
+use Rattle.hc_lines.specs.Grammar.{Text}
 use Rattle.hc_lang.specs.Reads.{Row, HasRows}
-use Rattle.hc_lang.specs.SigReading.{bind}
+use Rattle.hc_lines.specs.SigReading.{bind}
+use Rattle.hc_lang.specs.Found.{Found, found, some_found}
 use Rattle.hc_lang.specs.RowReading.{rows_from}
 use Rattle.hc_lang.specs.FirstForm.{are_plain, is_width, IsLawful, IsFirst}
 use Rattle.hc_lang.specs.FirstReading.{steps, single, finished, is_lawful, has_plain_widths, by_rows, first_of}
-use Rattle.hc_lang.proofs.Fronts.{bind-some, cond-some}
+use Rattle.hc_lines.proofs.Fronts.{bind-some, cond-some}
 use Rattle.hc_lang.proofs.RowLaws.{rows_read, rows_are}
 use Rattle.hc_lang.proofs.FirstRows.{rows_found, rows_are_small}
 use Rattle.hc_lang.proofs.FirstRules.{lawful_is, lawful_found}
@@ -37,7 +38,7 @@ by_rows_found : (d : ℕ) → d ≡ 64 → (text : List ℕ) (s : Small) → IsF
 by_rows_found d is text s h =
     let c : SmallCircuit = h.are_small.circuit in
     let fit : list_all (λ x. is_width x.width) c.heads ≡ true = list_all-from_AllPass (λ x. is_width x.width) c.heads h.lawful.widths in
-    ap (λ o. bind o (λ rows. bind (steps stage.Start rows) finished)) (rows_read d is h.has_rows.are_rows)
+    ap (λ o. bind (some_found o) (λ rows. bind (steps stage.Start rows) finished)) (rows_read d is h.has_rows.are_rows)
     ∙ ap (λ o. bind o finished) (rows_found h.rows s h.are_small fit)
     ∙ finished_found c s.top (lawful_found c h.lawful)
     ∙ ap (λ cs. Some (record { circuits = cs; top = s.top })) (sym h.are_small.circuits)
@@ -51,6 +52,10 @@ first_found most d m is text s h =
     ∙ by_rows_found d is text s h
 
 -- ---- and what is read is of the form
+
+was_found : {A : Type 0} (x : Found A) (a : A) → some_found x ≡ Some a → x ≡ found a
+was_found (Ok b) a e = cc
+was_found (Err f) a e = absurd cc
 
 some-same : (s t : Small) → Some s ≡ Some t → s ≡ t
 some-same s t e = cc
@@ -86,9 +91,9 @@ first_is most d m is text s e =
     let short = cond-some (nat_le (length text) most) (cond (list_all is_allowed text) (cond (has_plain_widths text) (by_rows d text) None) None) s e in
     let bytes = cond-some (list_all is_allowed text) (cond (has_plain_widths text) (by_rows d text) None) s short.1 in
     let plain = cond-some (has_plain_widths text) (by_rows d text) s bytes.1 in
-    let rows = bind-some (rows_from d 1 (lines text)) (λ rows. bind (steps stage.Start rows) finished) s plain.1 in
+    let rows = bind-some (some_found (rows_from d 1 (lines text))) (λ rows. bind (steps stage.Start rows) finished) s plain.1 in
     let stepped = bind-some (steps stage.Start rows.0) finished s rows.2 in
-    first_by text rows.0 s (subst (λ k. length text ≤ k) m (within (length text) most short.0)) (record { allowed = AllPass-from_list_all is_allowed text bytes.0; are_rows = rows_are d is 1 (lines text) rows.0 rows.1 }) plain.0 (ended_by stepped.0 rows.0 s stepped.1 stepped.2)
+    first_by text rows.0 s (subst (λ k. length text ≤ k) m (within (length text) most short.0)) (record { allowed = AllPass-from_list_all is_allowed text bytes.0; are_rows = rows_are d is 1 (lines text) rows.0 (was_found (rows_from d 1 (lines text)) rows.0 rows.1) }) plain.0 (ended_by stepped.0 rows.0 s stepped.1 stepped.2)
 
 -- a text has at most one design
 pub one_design : (text : List ℕ) (a b : Small) → IsFirst text a → IsFirst text b → a ≡ b

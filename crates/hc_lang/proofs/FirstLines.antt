@@ -1,25 +1,26 @@
 -- A line of the first form, and the line of the grammar that it is.
 use Rattle.std.proofs.Common.{◌≡◌, ℕ, true, cond, List, [], ◌∷◌, Some, None, pos, negsuc, refl, sym, ◌∙◌, ap, subst}
 use Rattle.std.specs.Option.{option_map}
-use Rattle.hc_lang.specs.declared.tree.Num.{Num, out-Num, roll-Num, roll-out-Num}
-use Rattle.hc_lang.specs.declared.tree.Num.TheOpen.{Num-F}
-use Rattle.hc_lang.specs.declared.tree.Num.TheVariants as num
-use Rattle.hc_lang.specs.declared.tree.Num.TheVariants.{outs-Int, rolls-Int}
-use Rattle.hc_lang.specs.declared.tree.IdentText.{IdentText}
-use Rattle.hc_lang.specs.declared.tree.Sig.{Sig}
-use Rattle.hc_lang.specs.declared.tree.Stmt.{Stmt}
-use Rattle.hc_lang.specs.declared.tree.What.{What, out-What, roll-What, roll-out-What}
-use Rattle.hc_lang.specs.declared.tree.What.TheOpen as open_what
-use Rattle.hc_lang.specs.declared.tree.What.TheVariants as what
-use Rattle.hc_lang.specs.declared.tree.What.TheVariants.{outs-Let, outs-Assign, rolls-Let, rolls-Assign}
+use Rattle.hc_tokens.specs.declared.tree.Num.{Num, out-Num, roll-Num, roll-out-Num}
+use Rattle.hc_tokens.specs.declared.tree.Num.TheOpen.{Num-F}
+use Rattle.hc_tokens.specs.declared.tree.Num.TheVariants as num
+use Rattle.hc_tokens.specs.declared.tree.Num.TheVariants.{outs-Int, rolls-Int}
+use Rattle.hc_lines.specs.declared.tree.IdentText.{IdentText}
+use Rattle.hc_lines.specs.declared.tree.Sig.{Sig}
+use Rattle.hc_lines.specs.declared.tree.Stmt.{Stmt}
+use Rattle.hc_lines.specs.declared.tree.What.{What, out-What, roll-What, roll-out-What}
+use Rattle.hc_lines.specs.declared.tree.What.TheOpen as open_what
+use Rattle.hc_lines.specs.declared.tree.What.TheVariants as what
+use Rattle.hc_lines.specs.declared.tree.What.TheVariants.{outs-Let, outs-Assign, rolls-Let, rolls-Assign}
 use Rattle.hc_lang.specs.declared.small.SmallWhat.{SmallWhat}
 use Rattle.hc_lang.specs.declared.small.SmallWhat.TheVariants as small_what
 use Rattle.hc_lang.specs.declared.small_line.FirstLine.{FirstLine}
 use Rattle.hc_lang.specs.declared.small_line.FirstLine.TheVariants as first
-use Rattle.hc_lang.specs.Grammar.{Line, Circuit, Port, Simple, For, If, Else, End, Top, Bench, Step}
+use Rattle.hc_lines.specs.declared.line.Line.{Line}
+use Rattle.hc_lines.specs.declared.line.Line.TheVariants.{Circuit, Port, Simple, For, If, Else, End, Top, Bench, Step}
 use Rattle.hc_lang.specs.FirstForm.{bare, tree_of, statement, head_line, is_width}
 use Rattle.hc_lang.specs.FirstReading.{bare_of, small_of, width_level, width_of, head_by, let_by, assign_by, statement_level, alone, first_line}
-use Rattle.hc_lang.proofs.Fronts.{bind-some, cond-some}
+use Rattle.hc_lines.proofs.Fronts.{bind-some, cond-some}
 use Rattle.hc_lang.proofs.RowLaws.{map-some}
 use Rattle.hc_lang.proofs.SmallTrees.{tree_found, tree_is, bare_of-some}
 

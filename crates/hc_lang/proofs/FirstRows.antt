@@ -11,14 +11,15 @@ use Rattle.hc_lang.specs.declared.small_line.FirstLine.{FirstLine}
 use Rattle.hc_lang.specs.declared.small_line.FirstLine.TheVariants as first
 use Rattle.hc_lang.specs.declared.assembly.Stage.{Stage}
 use Rattle.hc_lang.specs.declared.assembly.Stage.TheVariants as stage
-use Rattle.hc_lang.specs.Tokens.{same_bytes}
-use Rattle.hc_lang.specs.Grammar.{Text, Circuit, Top}
+use Rattle.hc_tokens.specs.Tokens.{same_bytes}
+use Rattle.hc_lines.specs.Grammar.{Text}
+use Rattle.hc_lines.specs.declared.line.Line.TheVariants.{Circuit, Top}
 use Rattle.hc_lang.specs.Reads.{Row}
-use Rattle.hc_lang.specs.SigReading.{bind}
+use Rattle.hc_lines.specs.SigReading.{bind}
 use Rattle.hc_lang.specs.FirstForm.{statement, statement_row, head_line, is_width, AreSmall}
 use Rattle.hc_lang.specs.FirstReading.{first_line, opened, with_head, with_line, closed, step, next, steps, single}
-use Rattle.hc_lang.proofs.Fronts.{bind-some, cond-some}
-use Rattle.hc_lang.proofs.NumbersSound.{same_bytes-equal}
+use Rattle.hc_lines.proofs.Fronts.{bind-some, cond-some}
+use Rattle.hc_tokens.proofs.NumbersSound.{same_bytes-equal}
 use Rattle.hc_lang.proofs.Distinct.{and-true}
 use Rattle.hc_lang.proofs.FirstLines.{line_of, Fits, line_found, line_is}
 

@@ -4,7 +4,7 @@ use Rattle.std.specs.List.{list_all}
 use Rattle.std.proofs.lemmas.List.Sums.{AllPass-from_list_all, list_all-from_AllPass}
 use Rattle.std.proofs.lemmas.Bool.Decides.{nat_tests}
 use Rattle.hc_lang.specs.declared.small.SmallCircuit.{SmallCircuit}
-use Rattle.hc_lang.specs.Tokens.{same_bytes}
+use Rattle.hc_tokens.specs.Tokens.{same_bytes}
 use Rattle.hc_lang.specs.Words.{is_barred, is_reserved}
 use Rattle.hc_lang.specs.FirstForm.{is_among, ports, inputs, outputs, made, targets, signal_of, names_any, is_width, IsLawful}
 use Rattle.hc_lang.specs.FirstReading.{differ_from, counts_fit, names_fit, drives_fit, signals_fit, uses_fit, is_lawful}

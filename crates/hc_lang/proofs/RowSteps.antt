@@ -1,7 +1,7 @@
 -- The lines of a text one after the other, and the rows that they add.
 use Rattle.std.proofs.Common.{◌≡◌, ℕ, zero, suc, ◌+◌, ◌-◌, ◌≤◌, ◌<◌, Bool, true, false, not, cond, ◌==◌, List, [], ◌∷◌, length, take, drop, refl, sym, ◌∙◌, ap, arith}
 use Rattle.std.specs.List.{prefix_len}
-use Rattle.hc_lang.specs.Tokens.{lines, onto_first}
+use Rattle.hc_tokens.specs.Tokens.{lines, onto_first}
 
 -- ---- the first line
 

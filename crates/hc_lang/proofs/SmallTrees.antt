@@ -1,21 +1,21 @@
 -- A small signal and its tree in the line grammar.
 use Rattle.std.proofs.Common.{◌≡◌, List, [], ◌∷◌, map, Option, Some, None, refl, sym, ◌∙◌, ap, subst}
 use Rattle.std.specs.Option.{option_map}
-use Rattle.hc_lang.specs.declared.tree.CallWord.{CallWord}
-use Rattle.hc_lang.specs.declared.tree.CallWord.TheVariants as word
-use Rattle.hc_lang.specs.declared.tree.Num.{Num}
-use Rattle.hc_lang.specs.declared.tree.IdentText.{IdentText}
-use Rattle.hc_lang.specs.declared.tree.Sig.{Sig, roll-Sig}
-use Rattle.hc_lang.specs.declared.tree.Sig.TheOpen.{Sig-F}
-use Rattle.hc_lang.specs.declared.tree.Sig.TheFolds.{fold-roll-Sig, ind-Sig, map-Sig}
-use Rattle.hc_lang.specs.declared.tree.Sig.TheVariants as sig
-use Rattle.hc_lang.specs.declared.tree.Sig.TheVariants.{rolls-Name as rolls-Name-Sig, rolls-Call}
+use Rattle.hc_lines.specs.declared.tree.CallWord.{CallWord}
+use Rattle.hc_lines.specs.declared.tree.CallWord.TheVariants as word
+use Rattle.hc_tokens.specs.declared.tree.Num.{Num}
+use Rattle.hc_lines.specs.declared.tree.IdentText.{IdentText}
+use Rattle.hc_lines.specs.declared.tree.Sig.{Sig, roll-Sig}
+use Rattle.hc_lines.specs.declared.tree.Sig.TheOpen.{Sig-F}
+use Rattle.hc_lines.specs.declared.tree.Sig.TheFolds.{fold-roll-Sig, ind-Sig, map-Sig}
+use Rattle.hc_lines.specs.declared.tree.Sig.TheVariants as sig
+use Rattle.hc_lines.specs.declared.tree.Sig.TheVariants.{rolls-Name as rolls-Name-Sig, rolls-Call}
 use Rattle.hc_lang.specs.declared.small.SmallSig.{SmallSig, roll-SmallSig}
 use Rattle.hc_lang.specs.declared.small.SmallSig.TheOpen.{SmallSig-F}
 use Rattle.hc_lang.specs.declared.small.SmallSig.TheFolds.{fold-roll-SmallSig, ind-SmallSig, map-SmallSig}
 use Rattle.hc_lang.specs.declared.small.SmallSig.TheVariants as small
 use Rattle.hc_lang.specs.declared.small.SmallSig.TheVariants.{rolls-Name, rolls-Add}
-use Rattle.hc_lang.specs.Grammar.{Text}
+use Rattle.hc_lines.specs.Grammar.{Text}
 use Rattle.hc_lang.specs.FirstForm.{bare, tree_level, tree_of}
 use Rattle.hc_lang.specs.FirstReading.{bare_name, bare_of, both, small_level, small_of}
 

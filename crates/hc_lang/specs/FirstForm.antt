@@ -1,13 +1,13 @@
 -- The first form of texts: one circuit of ports, `let` lines and `assign` lines, whose signals are names and sums.
 use Rattle.std.specs.Prelude.{◌≡◌, ℕ, ◌≤◌, nat_le, nat_eq, Bool, true, false, not, ◌&&◌, ◌||◌, List, [], ◌∷◌, ◌++◌, map, filter, flat_map, length, count_by, Option, Some, None, pos, codes}
 use Rattle.std.specs.List.{AllPass, list_any, IsDistinct}
-use Rattle.hc_lang.specs.declared.token.Token.TheVariants.{Word}
-use Rattle.hc_lang.specs.declared.tree.CallWord.TheVariants as word
-use Rattle.hc_lang.specs.declared.tree.Num.TheVariants as num
-use Rattle.hc_lang.specs.declared.tree.IdentText.{IdentText}
-use Rattle.hc_lang.specs.declared.tree.Sig.{Sig}
-use Rattle.hc_lang.specs.declared.tree.Sig.TheVariants as sig
-use Rattle.hc_lang.specs.declared.tree.What.TheVariants as what
+use Rattle.hc_tokens.specs.declared.token.Token.TheVariants.{Word}
+use Rattle.hc_lines.specs.declared.tree.CallWord.TheVariants as word
+use Rattle.hc_tokens.specs.declared.tree.Num.TheVariants as num
+use Rattle.hc_lines.specs.declared.tree.IdentText.{IdentText}
+use Rattle.hc_lines.specs.declared.tree.Sig.{Sig}
+use Rattle.hc_lines.specs.declared.tree.Sig.TheVariants as sig
+use Rattle.hc_lines.specs.declared.tree.What.TheVariants as what
 use Rattle.hc_lang.specs.declared.small.Small.{Small}
 use Rattle.hc_lang.specs.declared.small.SmallCircuit.{SmallCircuit}
 use Rattle.hc_lang.specs.declared.small.SmallHead.{SmallHead}
@@ -17,9 +17,11 @@ use Rattle.hc_lang.specs.declared.small.SmallWhat.TheVariants as small_what
 use Rattle.hc_lang.specs.declared.small.SmallSig.{SmallSig}
 use Rattle.hc_lang.specs.declared.small.SmallSig.TheOpen.{SmallSig-F}
 use Rattle.hc_lang.specs.declared.small.SmallSig.TheFolds.{fold-SmallSig}
-use Rattle.hc_lang.specs.Tokens.{tokens, lines, same_bytes}
+use Rattle.hc_tokens.specs.Tokens.{tokens, lines, same_bytes}
 use Rattle.hc_lang.specs.Words.{is_barred, is_reserved}
-use Rattle.hc_lang.specs.Grammar.{Text, Tokens, Line, Circuit, Port, Simple, Top}
+use Rattle.hc_lines.specs.Grammar.{Text, Tokens}
+use Rattle.hc_lines.specs.declared.line.Line.{Line}
+use Rattle.hc_lines.specs.declared.line.Line.TheVariants.{Circuit, Port, Simple, Top}
 use Rattle.hc_lang.specs.Reads.{Row, HasRows}
 
 -- ---- the lines

@@ -2,16 +2,16 @@
 use Rattle.std.specs.Prelude.{ℕ, Bool, true, not, ◌&&◌, nat_le, nat_eq, if◌then◌else◌, List, [], ◌∷◌, ◌++◌, map, filter, flat_map, length, count_by, Option, Some, None, ℤ, pos, negsuc}
 use Rattle.std.specs.List.{list_all}
 use Rattle.std.specs.Option.{option_map}
-use Rattle.hc_lang.specs.declared.tree.CallWord.TheVariants as word
-use Rattle.hc_lang.specs.declared.tree.Num.{Num, out-Num}
-use Rattle.hc_lang.specs.declared.tree.Num.TheOpen.{Num-F}
-use Rattle.hc_lang.specs.declared.tree.IdentText.{IdentText}
-use Rattle.hc_lang.specs.declared.tree.Sig.{Sig}
-use Rattle.hc_lang.specs.declared.tree.Sig.TheOpen.{Sig-F}
-use Rattle.hc_lang.specs.declared.tree.Sig.TheFolds.{fold-Sig}
-use Rattle.hc_lang.specs.declared.tree.What.{What, out-What}
-use Rattle.hc_lang.specs.declared.tree.What.TheOpen as open_what
-use Rattle.hc_lang.specs.declared.tree.Stmt.{Stmt}
+use Rattle.hc_lines.specs.declared.tree.CallWord.TheVariants as word
+use Rattle.hc_tokens.specs.declared.tree.Num.{Num, out-Num}
+use Rattle.hc_tokens.specs.declared.tree.Num.TheOpen.{Num-F}
+use Rattle.hc_lines.specs.declared.tree.IdentText.{IdentText}
+use Rattle.hc_lines.specs.declared.tree.Sig.{Sig}
+use Rattle.hc_lines.specs.declared.tree.Sig.TheOpen.{Sig-F}
+use Rattle.hc_lines.specs.declared.tree.Sig.TheFolds.{fold-Sig}
+use Rattle.hc_lines.specs.declared.tree.What.{What, out-What}
+use Rattle.hc_lines.specs.declared.tree.What.TheOpen as open_what
+use Rattle.hc_lines.specs.declared.tree.Stmt.{Stmt}
 use Rattle.hc_lang.specs.declared.small.Small.{Small}
 use Rattle.hc_lang.specs.declared.small.SmallCircuit.{SmallCircuit}
 use Rattle.hc_lang.specs.declared.small.SmallHead.{SmallHead}
@@ -24,11 +24,14 @@ use Rattle.hc_lang.specs.declared.small_line.FirstLine.{FirstLine}
 use Rattle.hc_lang.specs.declared.small_line.FirstLine.TheVariants as first
 use Rattle.hc_lang.specs.declared.assembly.Stage.{Stage}
 use Rattle.hc_lang.specs.declared.assembly.Stage.TheVariants as stage
-use Rattle.hc_lang.specs.Tokens.{tokens, lines, same_bytes, is_allowed}
+use Rattle.hc_tokens.specs.Tokens.{tokens, lines, same_bytes, is_allowed}
 use Rattle.hc_lang.specs.Words.{is_barred, is_reserved}
-use Rattle.hc_lang.specs.Grammar.{Text, Line, Circuit, Port, Simple, Top}
+use Rattle.hc_lines.specs.Grammar.{Text}
+use Rattle.hc_lines.specs.declared.line.Line.{Line}
+use Rattle.hc_lines.specs.declared.line.Line.TheVariants.{Circuit, Port, Simple, Top}
 use Rattle.hc_lang.specs.Reads.{Row}
-use Rattle.hc_lang.specs.SigReading.{bind}
+use Rattle.hc_lines.specs.SigReading.{bind}
+use Rattle.hc_lang.specs.Found.{some_found}
 use Rattle.hc_lang.specs.RowReading.{rows_from}
 use Rattle.hc_lang.specs.FirstForm.{is_among, ports, inputs, outputs, made, target_of, signal_of, names_any, is_width, are_plain}
 
@@ -187,7 +190,7 @@ abbrev pub has_plain_widths : List ℕ → Bool
 has_plain_widths text = list_all (λ line. are_plain (tokens line)) (lines text)
 
 abbrev pub by_rows : ℕ → List ℕ → Option Small
-by_rows d text = bind (rows_from d 1 (lines text)) (λ rows. bind (steps stage.Start rows) finished)
+by_rows d text = bind (some_found (rows_from d 1 (lines text))) (λ rows. bind (steps stage.Start rows) finished)
 
 -- at most `most` bytes, and at most d brackets open in a line
 unfoldable pub first_of : ℕ → ℕ → List ℕ → Option Small

@@ -1,13 +1,13 @@
 ghost use Rattle.std.specs.Prelude.{◌≡◌};
-ghost use Rattle.hc_lang.specs.Returns.{Returns};
+ghost use Rattle.hc_tokens.specs.Returns.{Returns};
 ghost use Rattle.hc_lang.specs.FirstReading as r;
 ghost use Rattle.hc_lang.specs.declared.assembly.Stage.TheVariants as stage;
 
 use crate::row::NumberedLine;
 use crate::small::{SmallCircuit, SmallHead, SmallLine, SmallWhat};
 use crate::small_line::{FirstLine, first_line};
-use crate::stop::Stop;
 use hc_fault::{ItemList, Name};
+use hc_tokens::Stop;
 use std::alloc::Global;
 
 /// How far the rows were read: before the `circuit` line, among the heads, among the statements, or past the `top` line.

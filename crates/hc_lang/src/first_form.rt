@@ -1,22 +1,23 @@
 ghost use Rattle.std.specs.Prelude.{◌≡◌, ◌<◌, ◌^◌, [], ◌∷◌, length, MatchOption, IfOk};
 ghost use Rattle.std.specs.List.{list_all};
-ghost use Rattle.hc_lang.specs.Returns.{Returns};
-ghost use Rattle.hc_lang.specs.Tokens as spec;
+ghost use Rattle.hc_tokens.specs.Returns.{Returns};
+ghost use Rattle.hc_tokens.specs.Tokens as spec;
 ghost use Rattle.hc_lang.specs.FirstForm as form;
 ghost use Rattle.hc_lang.specs.FirstForm.{IsFirst, IsOutside};
 ghost use Rattle.hc_lang.specs.FirstReading as r;
+ghost use Rattle.hc_lang.specs.Found.{some_found};
+ghost use Rattle.hc_lang.specs.RowReading.{rows_from};
 
 use crate::assembly::{Stage, assembled};
-use crate::lexer::tokens;
-use crate::row::{cut_line, rows};
+use crate::row::{NumberedLine, cut_line, rows};
 use crate::rules::is_lawful;
 use crate::small::{Small, SmallCircuit};
-use crate::stop::Stop;
-use crate::token::Token;
+use crate::text_stop::TextStop;
 use hc_fault::{ItemList, Name, NoMemory};
+use hc_tokens::{Stop, Token, tokens};
 use std::alloc::Global;
 
-fn is_allowed(byte: u8) -> bool
+pub(crate) fn is_allowed(byte: u8) -> bool
     ensures { result ≡ spec.is_allowed byte }
 {
     byte == b'\t' || byte == b'\n' || byte == b'\r' || (32 <= byte && byte <= 126)
@@ -96,11 +97,23 @@ fn finished(alloc: Global, stage: Stage) -> Result<Small, Stop>
     }
 }
 
+/// The rows of a text, where each line is of the grammar.
+fn read_rows(alloc: Global, text: &[u8], depth: usize) -> Result<ItemList<NumberedLine>, Stop>
+    requires { length text.now < 2 ^ 31 }
+    ensures { Returns (λ x. x) result (some_found (rows_from depth 1 (spec.lines text.now))) }
+{
+    match rows(alloc, text, depth) {
+        Ok(rows) => Ok(rows),
+        Err(TextStop::Fault(_, _)) => Err(Stop::Syntax),
+        Err(TextStop::Memory) => Err(Stop::Memory),
+    }
+}
+
 fn by_rows(alloc: Global, text: &[u8], depth: usize) -> Result<Small, Stop>
     requires { length text.now < 2 ^ 31 }
     ensures { Returns (λ x. x) result (r.by_rows depth text.now) }
 {
-    let rows = rows(alloc, text, depth)?;
+    let rows = read_rows(alloc, text, depth)?;
     let stage = assembled(alloc, rows.as_slice())?;
     finished(alloc, stage)
 }

@@ -1,163 +1,16 @@
-ghost use Rattle.std.specs.Prelude.{◌≡◌, [], ◌++◌, ◌||◌, map, filter, flat_map, not, length, count_by, codes, IfOk, nat_eq};
-ghost use Rattle.std.specs.List.{list_all, list_any, starts_with};
-ghost use Rattle.hc_lang.specs.Tokens.{same_bytes};
+ghost use Rattle.std.specs.Prelude.{◌≡◌, [], ◌++◌, map, filter, flat_map, not, length, count_by, IfOk, nat_eq};
+ghost use Rattle.std.specs.List.{list_all};
+ghost use Rattle.hc_tokens.specs.Tokens.{same_bytes};
 ghost use Rattle.hc_lang.specs.Words as words;
 ghost use Rattle.hc_lang.specs.FirstForm as form;
 ghost use Rattle.hc_lang.specs.FirstReading as r;
 
-use crate::number::is_among;
+use crate::reserved::{is_barred, is_reserved};
 use crate::small::{SmallCircuit, SmallHead, SmallLine, SmallSig, SmallWhat};
 use hc_fault::NoMemory;
+use hc_tokens::is_among;
 use std::alloc::Global;
 use std::collections::HashSet;
-
-/// The names that no port and no circuit may have: the keywords of Verilog, and `clock`.
-const RESERVED: [&[u8]; 125] = [
-    b"clock",
-    b"always",
-    b"and",
-    b"assign",
-    b"automatic",
-    b"begin",
-    b"buf",
-    b"bufif0",
-    b"bufif1",
-    b"case",
-    b"casex",
-    b"casez",
-    b"cell",
-    b"cmos",
-    b"config",
-    b"deassign",
-    b"default",
-    b"defparam",
-    b"design",
-    b"disable",
-    b"edge",
-    b"else",
-    b"end",
-    b"endcase",
-    b"endconfig",
-    b"endfunction",
-    b"endgenerate",
-    b"endmodule",
-    b"endprimitive",
-    b"endspecify",
-    b"endtable",
-    b"endtask",
-    b"event",
-    b"for",
-    b"force",
-    b"forever",
-    b"fork",
-    b"function",
-    b"generate",
-    b"genvar",
-    b"highz0",
-    b"highz1",
-    b"if",
-    b"ifnone",
-    b"incdir",
-    b"include",
-    b"initial",
-    b"inout",
-    b"input",
-    b"instance",
-    b"integer",
-    b"join",
-    b"large",
-    b"liblist",
-    b"library",
-    b"localparam",
-    b"macromodule",
-    b"medium",
-    b"module",
-    b"nand",
-    b"negedge",
-    b"nmos",
-    b"nor",
-    b"noshowcancelled",
-    b"not",
-    b"notif0",
-    b"notif1",
-    b"or",
-    b"output",
-    b"parameter",
-    b"pmos",
-    b"posedge",
-    b"primitive",
-    b"pull0",
-    b"pull1",
-    b"pulldown",
-    b"pullup",
-    b"pulsestyle_ondetect",
-    b"pulsestyle_onevent",
-    b"rcmos",
-    b"real",
-    b"realtime",
-    b"reg",
-    b"release",
-    b"repeat",
-    b"rnmos",
-    b"rpmos",
-    b"rtran",
-    b"rtranif0",
-    b"rtranif1",
-    b"scalared",
-    b"showcancelled",
-    b"signed",
-    b"small",
-    b"specify",
-    b"specparam",
-    b"strong0",
-    b"strong1",
-    b"supply0",
-    b"supply1",
-    b"table",
-    b"task",
-    b"time",
-    b"tran",
-    b"tranif0",
-    b"tranif1",
-    b"tri",
-    b"tri0",
-    b"tri1",
-    b"triand",
-    b"trior",
-    b"trireg",
-    b"unsigned",
-    b"use",
-    b"uwire",
-    b"vectored",
-    b"wait",
-    b"wand",
-    b"weak0",
-    b"weak1",
-    b"while",
-    b"wire",
-    b"wor",
-    b"xnor",
-    b"xor",
-];
-
-fn is_reserved(word: &[u8]) -> bool
-    ensures { result ≡ words.is_reserved word.now }
-{
-    is_among(word, &RESERVED)
-}
-
-fn begins_operation(word: &[u8]) -> bool
-    ensures { result ≡ starts_with nat_eq word.now (codes "op_") }
-{
-    word.starts_with(b"op_")
-}
-
-/// Whether no circuit may have the name.
-fn is_barred(word: &[u8]) -> bool
-    ensures { result ≡ words.is_barred word.now }
-{
-    is_reserved(word) || begins_operation(word)
-}
 
 fn any_reserved(names: &[&[u8]]) -> bool
     ensures { not result ≡ list_all (λ w. not (words.is_reserved w)) (map (λ w. w.now) names.now) }

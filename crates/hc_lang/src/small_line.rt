@@ -1,12 +1,11 @@
 ghost use Rattle.std.specs.Prelude.{◌≡◌, ◌≤◌, IfSome};
-ghost use Rattle.hc_lang.specs.Returns.{Returns};
+ghost use Rattle.hc_tokens.specs.Returns.{Returns};
 ghost use Rattle.hc_lang.specs.FirstReading as r;
 
-use crate::line::Line;
 use crate::small::{SmallHead, SmallSig, SmallWhat};
-use crate::stop::Stop;
-use crate::tree::{CallWord, IdentText, Num, Sig, What};
 use hc_fault::Name;
+use hc_lines::{CallWord, IdentText, Line, Sig, What};
+use hc_tokens::{Num, Stop};
 use sqlite_items::Boxed;
 use std::alloc::Global;
 

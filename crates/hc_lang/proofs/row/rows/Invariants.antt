@@ -1,5 +1,5 @@
 use Rattle.std.proofs.Common.{◌≡◌, ◌+◌, ◌≤◌, length}
-use Rattle.hc_lang.specs.Tokens.{lines}
+use Rattle.hc_tokens.specs.Tokens.{lines}
 use Rattle.hc_lang.specs.RowReading.{rows_from, with_rows}
 use Rattle.hc_lang.proofs.row.rows.Given as goal
 

@@ -1,6 +1,6 @@
 use Rattle.std.proofs.Common.{◌≡◌, map, drop, count_by, nat_eq}
 use Rattle.std.specs.List.{list_all}
-use Rattle.hc_lang.specs.Tokens.{same_bytes}
+use Rattle.hc_tokens.specs.Tokens.{same_bytes}
 use Rattle.hc_lang.proofs.rules.are_driven_once.Given as goal
 
 -- the outputs that are left decide

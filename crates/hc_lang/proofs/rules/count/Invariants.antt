@@ -1,5 +1,5 @@
 use Rattle.std.proofs.Common.{◌≡◌, ◌+◌, ◌≤◌, map, drop, count_by}
-use Rattle.hc_lang.specs.Tokens.{same_bytes}
+use Rattle.hc_tokens.specs.Tokens.{same_bytes}
 use Rattle.hc_lang.proofs.rules.count.Given as goal
 
 -- the count so far, and that of the names that are left, is that of all

@@ -1,6 +1,0 @@
-use Rattle.hc_lang.specs.Words.{reserved}
-use Rattle.hc_lang.proofs.rules.is_reserved.Goals as goal
-
-pub returns : goal.returns
-unfolding reserved
-returns c = c.is_among.ensures

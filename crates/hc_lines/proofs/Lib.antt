@@ -1,0 +1,13 @@
+pub mod Fronts
+pub mod ItemParts
+pub mod LineLaws
+pub mod LineParts
+pub mod LineSteps
+pub mod Lines
+pub mod Parts
+pub mod RegParts
+pub mod SigFound
+pub mod SigSound
+pub mod SigSteps
+pub mod SignalLaws
+pub mod SignalsEven

@@ -1,0 +1,4 @@
+pub mod CallWords
+pub mod Grammar
+pub mod LineReading
+pub mod SigReading

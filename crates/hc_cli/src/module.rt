@@ -22,7 +22,8 @@ fn text_of(alloc: Global, circuit: &Circuit, name: &Name) -> Result<Vec<u8>, NoM
     ensures { IfOk result (λ text. IsTreeText (leaf circuit.now) (λ i. []) name.now text.items) }
 {
     let form = canon(alloc, circuit, &[])?;
-    module_text(alloc, &form, name, &Names::new(alloc))
+    let names = Names::new(alloc);
+    module_text(alloc, &form, name, &names)
 }
 
 /// The module of a circuit, or none where it breaks a rule.

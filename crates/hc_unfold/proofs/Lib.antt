@@ -4,3 +4,4 @@ pub mod Drawn
 pub mod Copies
 pub mod Known
 pub mod Standing
+pub mod Growing

@@ -88,9 +88,3 @@ nodes_more g h xs ys x nodes grows node e id has =
 pub no_nodes : (g : Graph) → AreNodes g []
 no_nodes g id has = elim has [ ]
 
-pub grows_on : (g h k : Graph) → Grows g h → Grows h k → Grows g k
-grows_on g h k one two = record {
-  nodes = let a = one.nodes in let b = two.nodes in omega (arith, a, b);
-  memories = two.memories ∙ one.memories;
-  instances = two.instances ∙ one.instances;
-}

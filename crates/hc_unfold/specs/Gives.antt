@@ -1,9 +1,9 @@
 -- What a function of the program answered, against what the definition gives.
-use Rattle.std.specs.Prelude.{◌≡◌, ◌≤◌, ◌<◌, ◌+◌, ◌^◌, List, length, Result, Ok, Err}
+use Rattle.std.specs.Prelude.{◌≡◌, ℕ, ◌≤◌, ◌<◌, length, slice_get, Some, Result, Ok, Err}
+use Rattle.hc_signal.specs.declared.signal.NodeRow.{NodeRow}
 use Rattle.hc_fault.specs.declared.fault.FaultKind.{FaultKind}
 use Rattle.hc_signal.specs.declared.stop.BuildStop.{BuildStop}
 use Rattle.hc_signal.specs.declared.stop.BuildStop.TheVariants.{Fault, NoMemory}
-use Rattle.hc_signal.specs.declared.signal.NodeId.{NodeId}
 use Rattle.hc_signal.specs.Graph.{Graph}
 use Rattle.hc_signal.specs.Weight.{graph_weight}
 
@@ -17,9 +17,10 @@ abbrev pub Gives : {X Y : Type 0} → (X → Y) → Result X BuildStop → Resul
 Gives view (Ok x) given = given ≡ Ok (view x)
 Gives view (Err stop) given = Stops stop given
 
--- nodes were added, and nothing else
+-- nodes were added at the end, and nothing else
 pub record Grows (old new : Graph) : Type 0 where
   pub nodes : length old.nodes ≤ length new.nodes
+  pub rows : (n : ℕ) (row : NodeRow) → slice_get old.nodes n ≡ Some row → slice_get new.nodes n ≡ Some row
   pub memories : new.memories ≡ old.memories
   pub instances : new.instances ≡ old.instances
 

@@ -29,6 +29,7 @@ pub(crate) fn zeros(builder: &mut Builder, width: u32) -> Result<NodeId, BuildSt
     constant(builder, zero(width))
 }
 
+#[tactic(auto, using(crate::proofs::Growing::grows_on, crate::proofs::Growing::grows_none))]
 pub(crate) fn ne(builder: &mut Builder, x: NodeId, y: NodeId) -> Result<NodeId, BuildStop>
     requires x_node { IsNode builder.old x }
     requires y_node { IsNode builder.old y }
@@ -40,6 +41,7 @@ pub(crate) fn ne(builder: &mut Builder, x: NodeId, y: NodeId) -> Result<NodeId, 
     invert(builder, equal)
 }
 
+#[tactic(auto, using(crate::proofs::Growing::grows_on, crate::proofs::Growing::grows_none))]
 pub(crate) fn not_lt(builder: &mut Builder, x: NodeId, y: NodeId) -> Result<NodeId, BuildStop>
     requires x_node { IsNode builder.old x }
     requires y_node { IsNode builder.old y }
@@ -52,6 +54,7 @@ pub(crate) fn not_lt(builder: &mut Builder, x: NodeId, y: NodeId) -> Result<Node
 }
 
 /// Less-than of two's complement numbers: unsigned, with both sign bits turned.
+#[tactic(auto, using(crate::proofs::Growing::grows_on, crate::proofs::Growing::grows_none))]
 pub(crate) fn lts(builder: &mut Builder, x: NodeId, y: NodeId) -> Result<NodeId, BuildStop>
     requires x_node { IsNode builder.old x }
     requires y_node { IsNode builder.old y }
@@ -144,6 +147,7 @@ pub(crate) fn repeat(builder: &mut Builder, x: NodeId, count: i64) -> Result<Nod
 }
 
 /// A node of `width` bits in `wanted` bits: as it is, cut, or with zeros above.
+#[tactic(auto, using(crate::proofs::Growing::grows_on, crate::proofs::Growing::grows_none))]
 pub(crate) fn zero_extended(
     builder: &mut Builder,
     x: NodeId,
@@ -168,6 +172,7 @@ pub(crate) fn zero_extended(
 }
 
 /// The same with copies of the highest bit above.
+#[tactic(auto, using(crate::proofs::Growing::grows_on, crate::proofs::Growing::grows_none))]
 pub(crate) fn sign_extended(
     builder: &mut Builder,
     x: NodeId,

@@ -24,6 +24,7 @@ pub fn has_room(builder: &Builder) -> Result<(), BuildStop>
     }
 }
 
+#[tactic(auto, using(crate::proofs::Growing::row_added))]
 pub(crate) fn constant(builder: &mut Builder, value: Bits) -> Result<NodeId, BuildStop>
     ensures drawn { Gives (λ id. (builder.new, id)) result (spec.constant value builder.old) }
     ensures grows { OnOk result (Grows builder.old builder.new) }
@@ -33,6 +34,7 @@ pub(crate) fn constant(builder: &mut Builder, value: Bits) -> Result<NodeId, Bui
     builder.constant(value)
 }
 
+#[tactic(auto, using(crate::proofs::Growing::row_added))]
 pub(crate) fn two(
     builder: &mut Builder,
     op: Op2,
@@ -49,6 +51,7 @@ pub(crate) fn two(
     builder.two(op, a, b)
 }
 
+#[tactic(auto, using(crate::proofs::Growing::row_added))]
 pub(crate) fn invert(builder: &mut Builder, a: NodeId) -> Result<NodeId, BuildStop>
     requires { IsNode builder.old a }
     ensures drawn { Gives (λ id. (builder.new, id)) result (spec.invert a builder.old) }
@@ -59,6 +62,7 @@ pub(crate) fn invert(builder: &mut Builder, a: NodeId) -> Result<NodeId, BuildSt
     builder.not(a)
 }
 
+#[tactic(auto, using(crate::proofs::Growing::row_added))]
 pub(crate) fn mux(
     builder: &mut Builder,
     sel: NodeId,
@@ -76,7 +80,7 @@ pub(crate) fn mux(
 }
 
 /// The parts side by side; one part alone is that part.
-#[tactic(auto, using(crate::proofs::Lists::node_at))]
+#[tactic(auto, using(crate::proofs::Lists::node_at, crate::proofs::Growing::row_added, crate::proofs::Growing::grows_none))]
 pub(crate) fn cat(builder: &mut Builder, parts: &[NodeId]) -> Result<NodeId, BuildStop>
     requires part_nodes { AreNodes builder.old parts.now }
     requires some { 1 ≤ length parts.now }
@@ -121,6 +125,7 @@ pub(crate) fn mux_two(
     mux(builder, sel, &[a, b])
 }
 
+#[tactic(auto, using(crate::proofs::Growing::row_added))]
 pub(crate) fn select(
     builder: &mut Builder,
     a: NodeId,
@@ -136,6 +141,7 @@ pub(crate) fn select(
     builder.select(a, hi, lo)
 }
 
+#[tactic(auto, using(crate::proofs::Growing::row_added))]
 pub(crate) fn read(builder: &mut Builder, mem: MemId, addr: NodeId) -> Result<NodeId, BuildStop>
     requires mem { IsMemory builder.old mem }
     requires addr { IsNode builder.old addr }
@@ -147,6 +153,7 @@ pub(crate) fn read(builder: &mut Builder, mem: MemId, addr: NodeId) -> Result<No
     builder.read(mem, addr)
 }
 
+#[tactic(auto, using(crate::proofs::Growing::row_added))]
 pub(crate) fn operation(
     builder: &mut Builder,
     kind: OpKind,

@@ -11,6 +11,7 @@ use hc_fault::FaultKind;
 use hc_signal::{BuildStop, Builder, NodeId};
 
 /// A node of `width` bits with `bits` zeros below, cut to its width.
+#[tactic(auto, using(crate::proofs::Growing::grows_on, crate::proofs::Growing::grows_none))]
 fn left(builder: &mut Builder, x: NodeId, width: u32, bits: u64) -> Result<NodeId, BuildStop>
     requires x_node { IsNode builder.old x }
     requires width { IsWidth width }
@@ -31,6 +32,7 @@ fn left(builder: &mut Builder, x: NodeId, width: u32, bits: u64) -> Result<NodeI
 }
 
 /// A node of `width` bits without the `bits` lowest, with zeros above.
+#[tactic(auto, using(crate::proofs::Growing::grows_on, crate::proofs::Growing::grows_none))]
 fn right(builder: &mut Builder, x: NodeId, width: u32, bits: u64) -> Result<NodeId, BuildStop>
     requires x_node { IsNode builder.old x }
     requires width { IsWidth width }
@@ -51,6 +53,7 @@ fn right(builder: &mut Builder, x: NodeId, width: u32, bits: u64) -> Result<Node
 }
 
 /// The same with copies of the highest bit above.
+#[tactic(auto, using(crate::proofs::Growing::grows_on, crate::proofs::Growing::grows_none))]
 fn right_signed(
     builder: &mut Builder,
     x: NodeId,

@@ -120,7 +120,7 @@ fn push(nodes: &mut Vec<NodeId>, node: NodeId) -> Result<(), BuildStop>
 
 /// Draws signals in order: their nodes.
 #[cycle(draw)]
-#[tactic(auto, using(crate::proofs::Lists::nodes_onto_none, crate::proofs::Lists::no_nodes))]
+#[tactic(auto, using(crate::proofs::Lists::nodes_onto_none, crate::proofs::Lists::no_nodes, crate::proofs::Growing::grows_none))]
 fn draw_all(
     alloc: Global,
     builder: &mut Builder,
@@ -144,6 +144,7 @@ fn draw_all(
 /// Draws a signal: its nodes in the order of its text, each part before the whole, and the node that it is. The fault
 /// is the first that is met.
 #[cycle(draw)]
+#[tactic(auto, using(crate::proofs::Growing::grows_on, crate::proofs::Growing::grows_none))]
 pub fn draw(
     alloc: Global,
     builder: &mut Builder,

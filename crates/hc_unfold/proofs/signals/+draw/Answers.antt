@@ -1,4 +1,5 @@
-use Rattle.hc_unfold.proofs.Lists.{grows_on, nodes_more}
+use Rattle.hc_unfold.proofs.Growing.{grows_on}
+use Rattle.hc_unfold.proofs.Lists.{nodes_more}
 use Rattle.hc_unfold.proofs.Known.{known_still}
 use Rattle.hc_unfold.proofs.Drawn.{drawn_more}
 use Rattle.hc_unfold.proofs.signals.+draw.Goals as goal

@@ -1,0 +1,34 @@
+-- What a function of the program answered, against what the definition gives.
+use Rattle.std.specs.Prelude.{◌≡◌, Result, Ok, Err}
+use Rattle.hc_fault.specs.declared.fault.Fault.{Fault}
+use Rattle.hc_signal.specs.declared.stop.BuildStop.{BuildStop}
+use Rattle.hc_signal.specs.declared.stop.BuildStop.TheVariants as stop
+use Rattle.hc_body.specs.Steps.{Broken, Here}
+use Rattle.hc_fault.specs.declared.fault.Refused.{Refused}
+use Rattle.hc_fault.specs.declared.fault.Refused.TheVariants as refused
+
+-- the fault is the one that the definition gives; want of memory says nothing
+abbrev pub Refuses : {Y : Type 0} → Refused → Result Y Fault → Type 0
+Refuses (refused.Fault fault) given = given ≡ Err fault
+Refuses refused.NoMemory given = Unit {0}
+
+-- the answer, seen by view, is what the definition gives, unless memory ran out
+abbrev pub Answers : {X Y : Type 0} → (X → Y) → Result X Refused → Result Y Fault → Type 0
+Answers view (Ok x) given = given ≡ Ok (view x)
+Answers view (Err stop) given = Refuses stop given
+
+-- the answer is one that the definition has, unless memory ran out
+abbrev pub IsAnswer : {X Y : Type 0} → (X → Y) → (Result Y Fault → Type 0) → Result X Refused → Type 0
+IsAnswer view Has (Ok x) = Has (Ok (view x))
+IsAnswer view Has (Err (refused.Fault fault)) = Has (Err fault)
+IsAnswer view Has (Err refused.NoMemory) = Unit {0}
+
+-- a step that broke a rule of its own line
+abbrev pub Halts : {Y : Type 0} → BuildStop → Result Y Broken → Type 0
+Halts (stop.Fault kind) given = given ≡ Err (Here kind)
+Halts stop.NoMemory given = Unit {0}
+
+-- what a step answered, seen by view, is what the definition gives, unless memory ran out
+abbrev pub Performs : {X Y : Type 0} → (X → Y) → Result X BuildStop → Result Y Broken → Type 0
+Performs view (Ok x) given = given ≡ Ok (view x)
+Performs view (Err stop) given = Halts stop given

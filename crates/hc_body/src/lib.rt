@@ -1,0 +1,8 @@
+//! The body of a call: its text unrolled and drawn into a circuit, or its exact first fault.
+#![tactic(auto)]
+
+pub mod kinds;
+mod lines;
+pub mod make;
+mod state;
+mod storage;

@@ -6,11 +6,12 @@ use Rattle.hc_fault.specs.declared.fault.Fault.{Fault}
 use Rattle.hc_fault.specs.declared.fault.Ident.{Ident}
 use Rattle.hc_fault.specs.declared.fault.Path.{Path}
 use Rattle.hc_lang.specs.declared.tree.CircuitText.{CircuitText}
+use Rattle.hc_lang.specs.declared.tree.Head.{Head}
 use Rattle.hc_lang.specs.declared.tree.Design.{Design}
 use Rattle.hc_signal.specs.declared.signal.Ports.{Ports}
 use Rattle.hc_signal.specs.Weight.{graph_weight}
 use Rattle.hc_body.specs.Unrolled.{Statement, Let, Wire, Assign, Label, Reg, Memory, Write, Inst, Item, Do, Stop, unrolled}
-use Rattle.hc_body.specs.PortWidths.{Widths, PortWidths, port_widths, parameters, ports_of}
+use Rattle.hc_body.specs.PortWidths.{PortWidths, port_widths, parameters, ports_of}
 use Rattle.hc_body.specs.Steps.{Elaborating, Broken, Here, Inside, Steps, nothing}
 use Rattle.hc_body.specs.Statements.{open_heads, let_step, wire_step, assign_step, label_step, reg_step, memory_step, write_step}
 use Rattle.hc_body.specs.Instances.{inst_step}
@@ -67,15 +68,15 @@ module _ (d : Design) (path : Path) where
   -- the heads, and then the body
   abbrev pub after_heads : CircuitText → List ℤ → PortWidths → Result Elaborating Fault
   after_heads c args (Err f) = Err (fault_at path f.1 f.0)
-  after_heads c args (Ok heads) = elaborated (unrolled c.body (parameters c args)).items (open_heads heads nothing)
+  after_heads c args (Ok widths) = elaborated (unrolled c.body (parameters c args)).items (open_heads c.heads widths nothing)
 
   abbrev pub call_elaborated : CircuitText → List ℤ → Result Elaborating Fault
   call_elaborated c args = after_heads c args (port_widths c args)
 
 -- the ports of a call, or the first fault of its heads
-abbrev pub ports_or_fault : Path → PortWidths → Result Ports Fault
-ports_or_fault path (Ok heads) = Ok (ports_of heads)
-ports_or_fault path (Err f) = Err (fault_at path f.1 f.0)
+abbrev pub ports_or_fault : Path → List Head → PortWidths → Result Ports Fault
+ports_or_fault path heads (Ok widths) = Ok (ports_of heads widths)
+ports_or_fault path heads (Err f) = Err (fault_at path f.1 f.0)
 
 abbrev pub call_ports : Path → CircuitText → List ℤ → Result Ports Fault
-call_ports path c args = ports_or_fault path (port_widths c args)
+call_ports path c args = ports_or_fault path c.heads (port_widths c args)

@@ -1,9 +1,14 @@
 -- What a function of the program answered, against what the definition gives.
-use Rattle.std.specs.Prelude.{◌≡◌, Result, Ok, Err}
+use Rattle.std.specs.Prelude.{◌≡◌, ℕ, List, Result, Ok, Err}
+use Rattle.hc_bits.specs.BitVector.{IsWidth}
+use Rattle.hc_signal.specs.Member.{Has}
 use Rattle.hc_fault.specs.declared.fault.Fault.{Fault}
 use Rattle.hc_signal.specs.declared.stop.BuildStop.{BuildStop}
 use Rattle.hc_signal.specs.declared.stop.BuildStop.TheVariants as stop
 use Rattle.hc_body.specs.Steps.{Broken, Here}
+use Rattle.hc_body.specs.declared.heads.HeadStop.{HeadStop}
+use Rattle.hc_body.specs.declared.heads.HeadStop.TheVariants as head
+use Rattle.hc_fault.specs.declared.fault.FaultKind.{FaultKind}
 use Rattle.hc_fault.specs.declared.fault.Refused.{Refused}
 use Rattle.hc_fault.specs.declared.fault.Refused.TheVariants as refused
 
@@ -32,3 +37,17 @@ Halts stop.NoMemory given = Unit {0}
 abbrev pub Performs : {X Y : Type 0} → (X → Y) → Result X BuildStop → Result Y Broken → Type 0
 Performs view (Ok x) given = given ≡ Ok (view x)
 Performs view (Err stop) given = Halts stop given
+
+-- a fault of heads, with its line
+abbrev pub StopsHeads : {Y : Type 0} → HeadStop → Result Y (ℕ × FaultKind) → Type 0
+StopsHeads (head.Fault kind line) given = given ≡ Err (line, kind)
+StopsHeads head.NoMemory given = Unit {0}
+
+-- what heads give, unless memory ran out
+abbrev pub GivesHeads : {X Y : Type 0} → (X → Y) → Result X HeadStop → Result Y (ℕ × FaultKind) → Type 0
+GivesHeads view (Ok x) given = given ≡ Ok (view x)
+GivesHeads view (Err stop) given = StopsHeads stop given
+
+-- each is a width from 1 to 128
+abbrev pub AreWidths : List ℕ → Type 0
+AreWidths ws = (w : ℕ) → Has ws w → IsWidth w

@@ -21,7 +21,7 @@ use Rattle.hc_unfold.specs.Places.{key, numbers}
 use Rattle.hc_unfold.specs.Outputs.{port_place}
 use Rattle.hc_body.specs.declared.kinds.Child.{Child}
 use Rattle.hc_body.specs.Unrolled.{Text}
-use Rattle.hc_body.specs.PortWidths.{Widths, PortWidths, port_widths, ports_of}
+use Rattle.hc_body.specs.PortWidths.{PortWidths, port_widths, inputs_of, ports_of}
 use Rattle.hc_body.specs.Steps.{Elaborating, Steps, Broken, Inside, ◌>>=◌, ◌>>◌, answer, given, demand, rule, draw, is_new, bind, add_child}
 use Rattle.hc_body.specs.Statements.{signal_node}
 
@@ -33,9 +33,9 @@ abbrev pub ident_of : Key → Ident
 ident_of k = record { name = k.0; index = k.1 }
 
 -- a fault in the heads of an instance's circuit is that circuit's
-abbrev pub heads_of : Key → PortWidths → Steps Widths
-heads_of k (Ok ws) = answer ws
-heads_of k (Err f) = λ e. Err (Inside (ident_of k) f.0 f.1)
+abbrev pub widths_of : Key → PortWidths → Steps (List ℕ)
+widths_of k (Ok ws) = answer ws
+widths_of k (Err f) = λ e. Err (Inside (ident_of k) f.0 f.1)
 
 -- ---- connections: for each input the node, once it is connected
 
@@ -78,6 +78,10 @@ abbrev pub all_connected : Connected → Result (List NodeId) FaultKind
 all_connected [] = Ok []
 all_connected (o ∷ os) = put_before o (all_connected os)
 
+-- the node of each input, in their order
+abbrev pub connected : List Port → List (Text × Signal) → Steps (List NodeId)
+connected ins conns = connections ins (unconnected ins) conns >>= (λ done. given (all_connected done))
+
 -- ---- the instance
 
 abbrev pub next_instance : Graph → InstId
@@ -100,10 +104,9 @@ module _ (d : Design) where
     c ← circuit_named of
     rule ArgCount (length ns == length c.1.params)
     args ← given (numbers ns)
-    heads ← heads_of k (port_widths c.1 args)
-    done ← connections (ports_of heads).inputs (unconnected (ports_of heads).inputs) conns
-    inputs ← given (all_connected done)
+    widths ← widths_of k (port_widths c.1 args)
+    inputs ← connected (inputs_of c.1.heads widths) conns
     is_new k
-    id ← draw (instance (ports_of heads) inputs)
+    id ← draw (instance (ports_of c.1.heads widths) inputs)
     add_child (record { call = record { circuit = c.0; args = args }; ident = ident_of k; line = line })
     bind k (target.Instance id)

@@ -22,7 +22,6 @@ use Rattle.hc_unfold.specs.Drawing.{Draws, adds, next, unless, found, and_then, 
 use Rattle.hc_unfold.specs.Places.{key}
 use Rattle.hc_unfold.specs.Nodes.{node_of}
 use Rattle.hc_body.specs.Unrolled.{Text}
-use Rattle.hc_body.specs.PortWidths.{Widths}
 use Rattle.hc_body.specs.Registers.{register}
 use Rattle.hc_body.specs.Steps.{Elaborating, Steps, ◌>>=◌, ◌>>◌, answer, given, demand, draw, change, meaning_of, is_new, bind, define, declare, with_graph}
 
@@ -51,9 +50,10 @@ abbrev pub open_head : Head → ℕ → Elaborating → Elaborating
 open_head h w e = if h.is_input then open_input e h.name w else open_output e h.line h.name w
 
 -- a node for each head, in order
-abbrev pub open_heads : Widths → Elaborating → Elaborating
-open_heads [] e = e
-open_heads (h ∷ hs) e = open_heads hs (open_head h.0 h.1 e)
+abbrev pub open_heads : List Head → List ℕ → Elaborating → Elaborating
+open_heads [] ws e = e
+open_heads (h ∷ hs) [] e = e
+open_heads (h ∷ hs) (w ∷ ws) e = open_heads hs ws (open_head h w e)
 
 -- ---- parts of statements
 

@@ -1,8 +1,10 @@
 //! The body of a call: its text unrolled and drawn into a circuit, or its exact first fault.
 #![tactic(auto)]
 
+mod heads;
 pub mod kinds;
 mod lines;
 pub mod make;
 mod state;
 mod storage;
+mod taken;

@@ -17,6 +17,11 @@ abbrev pub Refuses : {Y : Type 0} → Refused → Result Y Fault → Type 0
 Refuses (refused.Fault fault) given = given ≡ Err fault
 Refuses refused.NoMemory given = Unit {0}
 
+-- it is this fault, or want of memory
+abbrev pub Tells : Refused → Fault → Type 0
+Tells (refused.Fault f) fault = f ≡ fault
+Tells refused.NoMemory fault = Unit {0}
+
 -- the answer, seen by view, is what the definition gives, unless memory ran out
 abbrev pub Answers : {X Y : Type 0} → (X → Y) → Result X Refused → Result Y Fault → Type 0
 Answers view (Ok x) given = given ≡ Ok (view x)

@@ -1,6 +1,8 @@
 //! The body of a call: its text unrolled and drawn into a circuit, or its exact first fault.
 #![tactic(auto)]
 
+mod circuits;
+mod faults;
 mod heads;
 pub mod kinds;
 mod lines;

@@ -8,7 +8,9 @@ use Rattle.hc_signal.specs.Member.{Has, first, later}
 use Rattle.hc_signal.specs.declared.signal.Port.{Port}
 use Rattle.hc_signal.specs.Builds.{port}
 use Rattle.hc_body.specs.Gives.{AreWidths}
-use Rattle.hc_body.specs.PortWidths.{PortWidths, before, at_line, width_of, widths_after, inputs_of, outputs_of}
+use Rattle.hc_body.specs.PortWidths.{PortWidths, before, at_line, width_of, widths_after, inputs_of, outputs_of, ports_of}
+use Rattle.hc_signal.specs.declared.signal.Ports.{Ports}
+use Rattle.hc_signal.specs.Lawful.{ArePorts}
 use Rattle.hc_num.specs.Value.{Bindings}
 
 -- widths that were read, and those that are still to be read
@@ -82,3 +84,27 @@ widths_step env taken taken2 hs i h ws ws2 w all within item is named more so_fa
 
 pub one_longer : (ws ws2 : List ℕ) (w i : ℕ) → ws2 ≡ ws ++ w ∷ [] → length ws ≡ i → length ws2 ≡ i + 1
 one_longer ws ws2 w i e n = ap length e ∙ length-append ws (w ∷ []) ∙ ap (λ (k : ℕ). k + 1) n
+
+-- a port, or one of the rest
+one_wide : (b : Bool) (q : Port) (rest : List Port) (p : Port) → Has (if b then q ∷ rest else rest) p → IsWidth q.width → (Has rest p → IsWidth p.width) → IsWidth p.width
+one_wide true q rest p first wide more = wide
+one_wide true q rest p (later t) wide more = more t
+one_wide false q rest p t wide more = more t
+
+other_wide : (b : Bool) (q : Port) (rest : List Port) (p : Port) → Has (if b then rest else q ∷ rest) p → IsWidth q.width → (Has rest p → IsWidth p.width) → IsWidth p.width
+other_wide false q rest p first wide more = wide
+other_wide false q rest p (later t) wide more = more t
+other_wide true q rest p t wide more = more t
+
+inputs_wide : (hs : List Head) (ws : List ℕ) (p : Port) → AreWidths ws → Has (inputs_of hs ws) p → IsWidth p.width
+inputs_wide [] ws p are has = elim has [ ]
+inputs_wide (h ∷ hs) [] p are has = elim has [ ]
+inputs_wide (h ∷ hs) (w ∷ ws) p are has = one_wide h.is_input (port h.name w) (inputs_of hs ws) p has (are w first) (inputs_wide hs ws p (λ v t. are v (later t)))
+
+outputs_wide : (hs : List Head) (ws : List ℕ) (p : Port) → AreWidths ws → Has (outputs_of hs ws) p → IsWidth p.width
+outputs_wide [] ws p are has = elim has [ ]
+outputs_wide (h ∷ hs) [] p are has = elim has [ ]
+outputs_wide (h ∷ hs) (w ∷ ws) p are has = other_wide h.is_input (port h.name w) (outputs_of hs ws) p has (are w first) (outputs_wide hs ws p (λ v t. are v (later t)))
+
+pub are_ports : (hs : List Head) (ws : List ℕ) (ports : Ports) → AreWidths ws → ports ≡ ports_of hs ws → ArePorts ports
+are_ports hs ws ports are e = subst (λ (q : Ports). ArePorts q) (sym e) (record { inputs = λ p has. inputs_wide hs ws p are has; outputs = λ p has. outputs_wide hs ws p are has })

@@ -125,3 +125,14 @@ with_row_grows g row = record {
 
 pub row_added : (g new : Graph) (row : NodeRow) → new ≡ with_row g row → Grows g new
 row_added g new row e = subst (λ (h : Graph). Grows g h) (sym e) (with_row_grows g row)
+
+pub grows_none : (g : Graph) → Grows g g
+grows_none g = record { nodes = omega arith; rows = λ n row at. at; memories = refl; instances = refl }
+
+pub grows_on : (g h k : Graph) → Grows g h → Grows h k → Grows g k
+grows_on g h k one two = record {
+  nodes = let a = one.nodes in let b = two.nodes in omega (arith, a, b);
+  rows = λ n row at. two.rows n row (one.rows n row at);
+  memories = two.memories ∙ one.memories;
+  instances = two.instances ∙ one.instances;
+}

@@ -3,9 +3,12 @@ use Rattle.std.specs.Prelude.{◌≡◌, ℕ, List, Result, Ok, Err}
 use Rattle.hc_bits.specs.BitVector.{IsWidth}
 use Rattle.hc_signal.specs.Member.{Has}
 use Rattle.hc_fault.specs.declared.fault.Fault.{Fault}
+use Rattle.hc_fault.specs.declared.fault.Ident.{Ident}
 use Rattle.hc_signal.specs.declared.stop.BuildStop.{BuildStop}
 use Rattle.hc_signal.specs.declared.stop.BuildStop.TheVariants as stop
-use Rattle.hc_body.specs.Steps.{Broken, Here}
+use Rattle.hc_body.specs.Steps.{Broken, Here, Inside}
+use Rattle.hc_body.specs.declared.instances.InstStop.{InstStop}
+use Rattle.hc_body.specs.declared.instances.InstStop.TheVariants as inst
 use Rattle.hc_body.specs.declared.heads.HeadStop.{HeadStop}
 use Rattle.hc_body.specs.declared.heads.HeadStop.TheVariants as head
 use Rattle.hc_fault.specs.declared.fault.FaultKind.{FaultKind}
@@ -56,3 +59,19 @@ GivesHeads view (Err stop) given = StopsHeads stop given
 -- each is a width from 1 to 128
 abbrev pub AreWidths : List ℕ → Type 0
 AreWidths ws = (w : ℕ) → Has ws w → IsWidth w
+
+-- an instance that broke a rule of its own line, or of its circuit's heads
+abbrev pub HaltsInst : {Y : Type 0} → InstStop → Result Y Broken → Type 0
+HaltsInst (inst.Here kind) given = given ≡ Err (Here kind)
+HaltsInst (inst.Inside ident line kind) given = given ≡ Err (Inside ident line kind)
+HaltsInst inst.NoMemory given = Unit {0}
+
+abbrev pub PerformsInst : {X Y : Type 0} → (X → Y) → Result X InstStop → Result Y Broken → Type 0
+PerformsInst view (Ok x) given = given ≡ Ok (view x)
+PerformsInst view (Err stop) given = HaltsInst stop given
+
+-- this fault in the heads of an instance's circuit, or want of memory
+abbrev pub IsInside : InstStop → Ident → ℕ → FaultKind → Type 0
+IsInside (inst.Inside i l k) ident line kind = (i ≡ ident) × (l ≡ line) × (k ≡ kind)
+IsInside inst.NoMemory ident line kind = Unit {0}
+IsInside (inst.Here k) ident line kind = ⊥

@@ -1,5 +1,5 @@
 -- The statement `inst`: a circuit, its arguments, its heads, and a connection for each input.
-use Rattle.std.specs.Prelude.{ℕ, ◌+◌, ◌==◌, Bool, false, not, is_some, List, [], ◌∷◌, ◌++◌, length, replicate, slice_get, slice_set, position, Option, Some, None, Result, Ok, Err, ℤ}
+use Rattle.std.specs.Prelude.{ℕ, ◌+◌, ◌==◌, Bool, false, is_some, if◌then◌else◌, List, [], ◌∷◌, ◌++◌, length, replicate, slice_get, slice_set, position, Option, Some, None, Result, Ok, Err, ℤ}
 use Rattle.std.specs.Str.{bytes_eq}
 use Rattle.hc_fault.specs.declared.fault.FaultKind.{FaultKind}
 use Rattle.hc_fault.specs.declared.fault.FaultKind.TheVariants.{UnknownCircuit, ArgCount, UnknownPort, RepeatedPort, MissingPort, WidthMismatch}
@@ -16,9 +16,10 @@ use Rattle.hc_signal.specs.Builds.{output_rows, width_at}
 use Rattle.hc_unfold.specs.Signals.{Place, Signal}
 use Rattle.hc_unfold.specs.Names.{Key}
 use Rattle.hc_unfold.specs.declared.names.Target.TheVariants as target
-use Rattle.hc_unfold.specs.Drawing.{Draws}
+use Rattle.hc_unfold.specs.Drawing.{Draws, and_then, found}
 use Rattle.hc_unfold.specs.Places.{key, numbers}
 use Rattle.hc_unfold.specs.Outputs.{port_place}
+use Rattle.hc_body.specs.declared.kinds.Call.{Call}
 use Rattle.hc_body.specs.declared.kinds.Child.{Child}
 use Rattle.hc_body.specs.Unrolled.{Text}
 use Rattle.hc_body.specs.PortWidths.{PortWidths, port_widths, inputs_of, ports_of}
@@ -53,15 +54,21 @@ abbrev pub width_of_port : Option Port → ℕ
 width_of_port None = 0
 width_of_port (Some p) = p.width
 
-abbrev pub has_width : NodeId → ℕ → Steps (Unit {0})
-has_width id w = λ e. rule WidthMismatch (width_at e.graph id == w) e
+-- the place of the input of this name, which is not connected before
+abbrev pub open_place : List Port → Connected → Text → Result ℕ FaultKind
+open_place ins done name = and_then (found UnknownPort (port_place name ins)) (λ at. if is_connected (slice_get done at) then Err RepeatedPort else Ok at)
+
+abbrev pub fits : Graph → List Port → ℕ → NodeId → Bool
+fits g ins at id = width_at g id == width_of_port (slice_get ins at)
+
+abbrev pub has_width : List Port → ℕ → NodeId → Steps (Unit {0})
+has_width ins at id = λ e. rule WidthMismatch (fits e.graph ins at id) e
 
 abbrev pub connect : List Port → Connected → Text × Signal → Steps Connected
 connect ins done c = do
   id ← signal_node c.1
-  at ← demand UnknownPort (port_place c.0 ins)
-  rule RepeatedPort (not (is_connected (slice_get done at)))
-  has_width id (width_of_port (slice_get ins at))
+  at ← given (open_place ins done c.0)
+  has_width ins at id
   answer (slice_set done at (Some id))
 
 abbrev pub connections : List Port → Connected → List (Text × Signal) → Steps Connected
@@ -79,8 +86,11 @@ all_connected [] = Ok []
 all_connected (o ∷ os) = put_before o (all_connected os)
 
 -- the node of each input, in their order
+abbrev pub connected_from : List Port → Connected → List (Text × Signal) → Steps (List NodeId)
+connected_from ins done conns = connections ins done conns >>= (λ more. given (all_connected more))
+
 abbrev pub connected : List Port → List (Text × Signal) → Steps (List NodeId)
-connected ins conns = connections ins (unconnected ins) conns >>= (λ done. given (all_connected done))
+connected ins conns = connected_from ins (unconnected ins) conns
 
 -- ---- the instance
 
@@ -91,22 +101,36 @@ next_instance g = record { 0 = length g.instances }
 abbrev pub instance : Ports → List NodeId → Draws InstId
 instance ports conns = λ g. Ok (record g { nodes = g.nodes ++ output_rows (length g.instances) 0 ports.outputs; instances = g.instances ++ record { ports = ports; conns = conns; label = None } ∷ [] }, next_instance g)
 
+-- an instance under a new name, with its call
+abbrev pub placed : Key → ℕ → Call → Ports → List NodeId → Steps (Unit {0})
+placed k line call ports inputs = do
+  is_new k
+  id ← draw (instance ports inputs)
+  add_child (record { call = call; ident = ident_of k; line = line })
+  bind k (target.Instance id)
+
+-- an instance of a circuit whose heads have these widths
+abbrev pub with_widths : Key → ℕ → ℕ → CircuitText → List ℤ → List (Text × Signal) → List ℕ → Steps (Unit {0})
+with_widths k line place c args conns widths = do
+  inputs ← connected (inputs_of c.heads widths) conns
+  placed k line (record { circuit = place; args = args }) (ports_of c.heads widths) inputs
+
+-- the heads of the circuit, and then the instance
+abbrev pub instantiated : Key → ℕ → ℕ → CircuitText → List ℤ → List (Text × Signal) → Steps (Unit {0})
+instantiated k line place c args conns = widths_of k (port_widths c args) >>= with_widths k line place c args conns
+
+-- the count of the arguments, and their values
+abbrev pub arguments : CircuitText → List Outcome → Result (List ℤ) FaultKind
+arguments c ns = if length ns == length c.params then numbers ns else Err ArgCount
+
 module _ (d : Design) where
-  abbrev pub circuit_named : Text → Steps (ℕ × CircuitText)
-  circuit_named name = do
-    at ← demand UnknownCircuit (circuit_place d.circuits name)
-    c ← demand UnknownCircuit (slice_get d.circuits at)
-    answer (at, c)
+  abbrev pub circuit_at : Option ℕ → Result (ℕ × CircuitText) FaultKind
+  circuit_at None = Err UnknownCircuit
+  circuit_at (Some at) = and_then (found UnknownCircuit (slice_get d.circuits at)) (λ c. Ok (at, c))
 
   abbrev pub inst_step : ℕ → Place → Text → List Outcome → List (Text × Signal) → Steps (Unit {0})
   inst_step line p of ns conns = do
     k ← given (key p)
-    c ← circuit_named of
-    rule ArgCount (length ns == length c.1.params)
-    args ← given (numbers ns)
-    widths ← widths_of k (port_widths c.1 args)
-    inputs ← connected (inputs_of c.1.heads widths) conns
-    is_new k
-    id ← draw (instance (ports_of c.1.heads widths) inputs)
-    add_child (record { call = record { circuit = c.0; args = args }; ident = ident_of k; line = line })
-    bind k (target.Instance id)
+    c ← given (circuit_at (circuit_place d.circuits of))
+    args ← given (arguments c.1 ns)
+    instantiated k line c.0 c.1 args conns

@@ -2,6 +2,7 @@
 ghost use Rattle.std.specs.Prelude.{◌≡◌, ◌++◌, ◌∷◌, [], length, if◌then◌else◌, IfErr, IfOk, OnOk};
 ghost use Rattle.hc_bits.specs.BitVector.{IsWidth};
 ghost use Rattle.hc_signal.specs.Builds.{port};
+ghost use Rattle.hc_signal.specs.Lawful.{ArePorts};
 ghost use Rattle.hc_body.specs.Gives.{AreWidths};
 ghost use Rattle.hc_unfold.specs.Gives.{Gives};
 ghost use Rattle.hc_body.specs.declared.heads.HeadStop.TheVariants as head_stop;
@@ -49,12 +50,7 @@ pub(crate) fn parameters(alloc: Global, params: &[Name], args: &[i64]) -> Result
 }
 
 /// The width of a head after ports of other names. F11 or F13 of its number; F12; F14 where its name is taken.
-fn head_width(
-    alloc: Global,
-    env: &Env,
-    taken: &mut Taken,
-    head: &Head,
-) -> Result<u32, BuildStop>
+fn head_width(alloc: Global, env: &Env, taken: &mut Taken, head: &Head) -> Result<u32, BuildStop>
     ensures width { Gives (λ w. w) result (spec.width_of env.now taken.old head.now) }
     ensures taken { OnOk result (taken.new ≡ taken.old ++ head.now.name ∷ []) }
     ensures range { IfOk result (λ w. IsWidth w) }
@@ -79,12 +75,7 @@ fn push(widths: &mut Vec<u32>, width: u32) -> Result<(), HeadStop>
 }
 
 /// The same, with the line of its fault.
-fn line_width(
-    alloc: Global,
-    env: &Env,
-    taken: &mut Taken,
-    head: &Head,
-) -> Result<u32, HeadStop>
+fn line_width(alloc: Global, env: &Env, taken: &mut Taken, head: &Head) -> Result<u32, HeadStop>
     ensures width { GivesHeads (λ w. w) result (spec.at_line head.now.line (spec.width_of env.now taken.old head.now)) }
     ensures taken { OnOk result (taken.new ≡ taken.old ++ head.now.name ∷ []) }
     ensures range { IfOk result (λ w. IsWidth w) }
@@ -165,9 +156,9 @@ fn add_port(
     }
 }
 
-/// The ports of heads of these widths.
+/// The inputs and the outputs of heads of these widths.
 #[tactic(auto, using(crate::proofs::HeadSteps::inputs_more, crate::proofs::HeadSteps::outputs_more))]
-pub(crate) fn ports(alloc: Global, heads: &[Head], widths: &[u32]) -> Result<Ports, NoMemory>
+fn split(alloc: Global, heads: &[Head], widths: &[u32]) -> Result<Ports, NoMemory>
     requires { length widths.now ≡ length heads.now }
     ensures { IfOk result (λ ports. ports ≡ spec.ports_of heads.now widths.now) }
 {
@@ -177,4 +168,16 @@ pub(crate) fn ports(alloc: Global, heads: &[Head], widths: &[u32]) -> Result<Por
         add_port(alloc, &mut inputs, &mut outputs, head, widths[at])?;
     }
     Ok(Ports { inputs, outputs })
+}
+
+/// The ports of heads of these widths.
+#[tactic(auto, using(crate::proofs::HeadSteps::are_ports))]
+pub(crate) fn ports(alloc: Global, heads: &[Head], widths: &[u32]) -> Result<Ports, NoMemory>
+    requires count { length widths.now ≡ length heads.now }
+    requires range { AreWidths widths.now }
+    ensures value { IfOk result (λ ports. ports ≡ spec.ports_of heads.now widths.now) }
+    ensures lawful { IfOk result (λ ports. ArePorts ports) }
+{
+    let ports = split(alloc, heads, widths)?;
+    Ok(ports)
 }

@@ -4,6 +4,7 @@
 mod circuits;
 mod faults;
 mod heads;
+mod instances;
 pub mod kinds;
 mod lines;
 pub mod make;

@@ -91,12 +91,7 @@ fn circuit_of<'a>(design: &'a Design, call: &Call) -> &'a CircuitText
 }
 
 /// The ports of a call, or the first fault of its parameters and heads.
-pub fn ports_of(
-    alloc: Global,
-    design: &Design,
-    call: &Call,
-    path: &Path,
-) -> Result<Ports, Refused>
+pub fn ports_of(alloc: Global, design: &Design, call: &Call, path: &Path) -> Result<Ports, Refused>
     requires { IsCall design.now call.now }
     ensures { (c : CircuitText) → IsCallOf design.now call.now c → Answers (λ ports. ports) result (call_ports path.now c call.now.args) }
 {
@@ -106,12 +101,7 @@ pub fn ports_of(
 
 /// The body of a call, or its first fault: of its parameters and heads, of its lines as they run, or of the whole
 /// graph.
-pub fn body(
-    _alloc: Global,
-    _design: &Design,
-    _call: &Call,
-    _path: &Path,
-) -> Result<Body, Refused>
+pub fn body(_alloc: Global, _design: &Design, _call: &Call, _path: &Path) -> Result<Body, Refused>
     requires { IsCall _design.now _call.now }
     ensures { (c : CircuitText) → IsCallOf _design.now _call.now c → IsAnswer (λ body. body) (BodyOf _design.now c _call.now.args _path.now) result }
 {

@@ -101,10 +101,7 @@ fn value_in(width: u32, number: i64) -> Result<Bits, FaultKind>
     Bits::from_i64(width, number).ok_or(FaultKind::ConstRange)
 }
 
-fn clear_in(
-    width: u32,
-    clear: Option<(NodeId, i64)>,
-) -> Result<Option<(NodeId, Bits)>, FaultKind>
+fn clear_in(width: u32, clear: Option<(NodeId, i64)>) -> Result<Option<(NodeId, Bits)>, FaultKind>
     requires { IsWidth width }
     ensures value { result ≡ register.clear_in width clear }
     ensures width { IfOk result (λ c. ForSome c (λ x. x.1.width ≡ width)) }

@@ -1,6 +1,6 @@
 use Rattle.std.proofs.Common.{◌≡◌, ◌++◌, drop}
 use Rattle.hc_body.specs.PortWidths.{inputs_of, outputs_of}
-use Rattle.hc_body.proofs.heads.ports.Given as goal
+use Rattle.hc_body.proofs.heads.split.Given as goal
 
 -- the ports so far and those of the heads that are left are all
 abbrev pub invariant-heads : goal.invariant-heads

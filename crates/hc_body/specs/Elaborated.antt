@@ -10,9 +10,9 @@ use Rattle.hc_lang.specs.declared.tree.Head.{Head}
 use Rattle.hc_lang.specs.declared.tree.Design.{Design}
 use Rattle.hc_signal.specs.declared.signal.Ports.{Ports}
 use Rattle.hc_signal.specs.Weight.{graph_weight}
-use Rattle.hc_body.specs.Unrolled.{Statement, Let, Wire, Assign, Label, Reg, Memory, Write, Inst, Item, Do, Stop, unrolled}
+use Rattle.hc_body.specs.Unrolled.{Events, Does, Counts, Stops, Statement, Let, Wire, Assign, Label, Reg, Memory, Write, Inst, Item, Do, Stop, unrolled}
 use Rattle.hc_body.specs.PortWidths.{PortWidths, port_widths, parameters, ports_of}
-use Rattle.hc_body.specs.Steps.{Elaborating, Broken, Here, Inside, Steps, nothing}
+use Rattle.hc_body.specs.Steps.{Elaborating, Broken, Here, Inside, Steps, answer, nothing}
 use Rattle.hc_body.specs.Statements.{open_heads, let_step, wire_step, assign_step, label_step, reg_step, memory_step, write_step}
 use Rattle.hc_body.specs.Instances.{inst_step}
 
@@ -34,7 +34,7 @@ fault_of path line (Inside step inner kind) = fault_at (child_path path step) ki
 abbrev pub most_weight : ℕ
 most_weight = 262144
 
-module _ (d : Design) (path : Path) where
+module _ (d : Design) where
   -- what a statement on this line does
   abbrev pub statement_step : ℕ → Statement → Steps (Unit {0})
   statement_step line (Let p s) = let_step p s
@@ -46,6 +46,14 @@ module _ (d : Design) (path : Path) where
   statement_step line (Write p e a v) = write_step p e a v
   statement_step line (Inst p of ns conns) = inst_step d line p of ns conns
 
+  -- what the first of some events does, where it is a statement
+  abbrev pub first_step : Events → Steps (Unit {0})
+  first_step [] = answer tt
+  first_step (Does line s ∷ es) = statement_step line s
+  first_step (Counts line ∷ es) = answer tt
+  first_step (Stops line kind ∷ es) = answer tt
+
+module _ (d : Design) (path : Path) where
   -- the weight of the rows so far and the lines and turns that counted so far
   abbrev pub weighed : ℕ → ℕ → Result (Elaborating × Unit {0}) Broken → Result Elaborating Fault
   weighed count line (Err broken) = Err (fault_of path line broken)
@@ -53,7 +61,7 @@ module _ (d : Design) (path : Path) where
 
   -- a statement, and then the weight
   abbrev pub statement : ℕ → ℕ → Statement → Elaborating → Result Elaborating Fault
-  statement count line s e = weighed count line (statement_step line s e)
+  statement count line s e = weighed count line (statement_step d line s e)
 
   abbrev pub go_on : Result Elaborating Fault → (Elaborating → Result Elaborating Fault) → Result Elaborating Fault
   go_on (Ok e) f = f e

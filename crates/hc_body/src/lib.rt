@@ -9,5 +9,6 @@ pub mod kinds;
 mod lines;
 pub mod make;
 mod state;
+mod statement;
 mod storage;
 mod taken;

@@ -87,4 +87,3 @@ nodes_more g h xs ys x nodes grows node e id has =
 
 pub no_nodes : (g : Graph) → AreNodes g []
 no_nodes g id has = elim has [ ]
-

@@ -27,12 +27,7 @@ fn unary(builder: &mut Builder, word: CallWord, x: NodeId) -> Result<NodeId, Bui
     }
 }
 
-fn binary(
-    builder: &mut Builder,
-    word: CallWord,
-    x: NodeId,
-    y: NodeId,
-) -> Result<NodeId, BuildStop>
+fn binary(builder: &mut Builder, word: CallWord, x: NodeId, y: NodeId) -> Result<NodeId, BuildStop>
     requires x_node { IsNode builder.old x }
     requires y_node { IsNode builder.old y }
     ensures drawn { Gives (λ id. (builder.new, id)) result (spec.binary word x y builder.old) }

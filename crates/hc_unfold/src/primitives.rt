@@ -35,12 +35,7 @@ pub(crate) fn constant(builder: &mut Builder, value: Bits) -> Result<NodeId, Bui
 }
 
 #[tactic(auto, using(crate::proofs::Growing::row_added))]
-pub(crate) fn two(
-    builder: &mut Builder,
-    op: Op2,
-    a: NodeId,
-    b: NodeId,
-) -> Result<NodeId, BuildStop>
+pub(crate) fn two(builder: &mut Builder, op: Op2, a: NodeId, b: NodeId) -> Result<NodeId, BuildStop>
     requires a_node { IsNode builder.old a }
     requires b_node { IsNode builder.old b }
     ensures drawn { Gives (λ id. (builder.new, id)) result (spec.two op a b builder.old) }
@@ -63,11 +58,7 @@ pub(crate) fn invert(builder: &mut Builder, a: NodeId) -> Result<NodeId, BuildSt
 }
 
 #[tactic(auto, using(crate::proofs::Growing::row_added))]
-pub(crate) fn mux(
-    builder: &mut Builder,
-    sel: NodeId,
-    cases: &[NodeId],
-) -> Result<NodeId, BuildStop>
+pub(crate) fn mux(builder: &mut Builder, sel: NodeId, cases: &[NodeId]) -> Result<NodeId, BuildStop>
     requires sel_node { IsNode builder.old sel }
     requires case_nodes { AreNodes builder.old cases.now }
     requires two { 2 ≤ length cases.now }

@@ -91,11 +91,7 @@ fn read_from(
 }
 
 /// The operation of this name. F37 where there is none, or it takes another count of arguments.
-fn operation_named(
-    builder: &mut Builder,
-    name: &Name,
-    args: &[NodeId],
-) -> Result<NodeId, BuildStop>
+fn operation_named(builder: &mut Builder, name: &Name, args: &[NodeId]) -> Result<NodeId, BuildStop>
     requires { AreNodes builder.old args.now }
     ensures drawn { Gives (λ id. (builder.new, id)) result (spec.operation_named name.now args.now builder.old) }
     ensures grows { OnOk result (Grows builder.old builder.new) }

@@ -4,10 +4,10 @@ ghost use Rattle.hc_signal.specs.Graph.{Graph};
 ghost use Rattle.hc_signal.specs.Tree.{empty};
 ghost use Rattle.hc_signal.specs.Weight.{graph_weight};
 ghost use Rattle.hc_signal.specs.Lawful.{IsLawful};
-ghost use Rattle.hc_signal.specs.Builds.{IsNode, width_at};
+ghost use Rattle.hc_signal.specs.Builds.{IsInstance, IsNode, width_at};
 
 use crate::circuit::Circuit;
-use crate::signal::{Instance, Memory, NodeId, NodeRow, Port, Ports};
+use crate::signal::{InstId, Instance, Memory, NodeId, NodeRow, Port, Ports};
 use hc_fault::ItemList;
 use std::alloc::Global;
 use std::marker::Model;
@@ -100,6 +100,14 @@ impl Builder {
         ensures { slice_get self.now.nodes id.0 ≡ Some result.now }
     {
         &self.nodes[id.0 as usize]
+    }
+
+    /// The row of an instance.
+    pub fn instance_row(&self, id: InstId) -> &Instance
+        requires { IsInstance self.now id }
+        ensures { slice_get self.now.instances id.0 ≡ Some result.now }
+    {
+        &self.instances[id.0 as usize]
     }
 
     /// The weight of all rows so far: for each node 1 and its operands, for each memory 1 and for each of its write

@@ -1,0 +1,12 @@
+pub mod Unrolled
+pub mod PortWidths
+pub mod Steps
+pub mod Registers
+pub mod Statements
+pub mod Connections
+pub mod Instances
+pub mod Elaborated
+pub mod BodyOf
+pub mod TopCall
+pub mod InstStops
+pub mod Gives

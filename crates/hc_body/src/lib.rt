@@ -1,0 +1,14 @@
+//! The body of a call: its text unrolled and drawn into a circuit, or its exact first fault.
+#![tactic(auto)]
+
+mod circuits;
+mod faults;
+mod heads;
+mod instances;
+pub mod kinds;
+mod lines;
+pub mod make;
+mod state;
+mod statement;
+mod storage;
+mod taken;

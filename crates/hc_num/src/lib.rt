@@ -1,0 +1,11 @@
+//! The value of a written number, under bindings of names.
+#![tactic(auto)]
+
+mod arithmetic;
+mod bindings;
+#[cfg(test)]
+mod tests;
+mod values;
+
+pub use bindings::Env;
+pub use values::eval;

@@ -1,0 +1,9 @@
+pub mod Signals
+pub mod Names
+pub mod Drawing
+pub mod Derived
+pub mod Calls
+pub mod Places
+pub mod Outputs
+pub mod Nodes
+pub mod Gives

@@ -3,14 +3,19 @@ use hc_tokens::{Stop, tokens};
 use std::alloc::Global;
 use std::test::Fail;
 
-/// Whether the line is read.
-fn is_read(alloc: Global, line: &str) -> Result<bool, Stop> {
-    let tokens = tokens(alloc, line.as_bytes())?;
-    match read_line(alloc, tokens.as_slice(), 64) {
+/// Whether something was read. What was read is let go.
+fn is_found<T: Drop>(read: Result<T, Stop>) -> Result<bool, Stop> {
+    match read {
         Ok(_) => Ok(true),
         Err(Stop::Syntax) => Ok(false),
         Err(Stop::Memory) => Err(Stop::Memory),
     }
+}
+
+/// Whether the line is read.
+fn is_read(alloc: Global, line: &str) -> Result<bool, Stop> {
+    let tokens = tokens(alloc, line.as_bytes())?;
+    is_found(read_line(alloc, tokens.as_slice(), 64))
 }
 
 #[test]

@@ -2,3 +2,9 @@ pub mod Known
 pub mod HeadSteps
 pub mod Connected
 pub mod Instanced
+pub mod Single
+pub mod TopCalls
+pub mod Frames
+pub mod Matched
+pub mod Sound
+pub mod Bodies

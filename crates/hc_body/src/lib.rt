@@ -6,6 +6,7 @@ mod faults;
 mod heads;
 mod instances;
 pub mod kinds;
+pub mod laws;
 mod lines;
 pub mod make;
 mod state;

@@ -16,3 +16,5 @@ mod state;
 mod statement;
 mod storage;
 mod taken;
+#[cfg(test)]
+mod tests;

@@ -1,9 +1,8 @@
 -- Rows after rows: the blocks that are open, and how many at most.
-use Rattle.std.proofs.Common.{◌≡◌, ℕ, suc, ◌≤◌, max, List, [], ◌∷◌, ◌++◌, length, refl, sym, ◌∙◌, ap, subst, arith}
+use Rattle.std.proofs.Common.{◌≡◌, ℕ, ◌≤◌, List, [], ◌∷◌, ◌++◌, length, refl, sym, ◌∙◌, ap, subst, arith}
 use Rattle.hc_lang.specs.Reads.{Row, after_row, open_blocks, most_opened, AreStmts}
 use Rattle.hc_lang.specs.Reads as r
 use Rattle.hc_lines.specs.declared.line.Line.TheVariants as g
-use Rattle.hc_lang.specs.declared.tree.CircuitText.{CircuitText}
 use Rattle.hc_lines.specs.declared.tree.Stmt.{Stmt}
 
 pub open_blocks-append : (o : List ℕ) (xs ys : List Row) → open_blocks o (xs ++ ys) ≡ open_blocks (open_blocks o xs) ys

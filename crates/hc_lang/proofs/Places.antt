@@ -2,7 +2,6 @@
 use Rattle.std.proofs.Common.{◌≡◌, ℕ, suc, ◌≤◌, nat_lt, nat_eq, Bool, true, false, ◌&&◌, cond, List, [], ◌∷◌, ◌++◌, map, length, Option, Some, None, refl, sym, ◌∙◌, ap, subst, append_assoc, arith}
 use Rattle.std.specs.Option.{option_map}
 use Rattle.std.proofs.lemmas.Bool.Decides.{nat_tests}
-use Rattle.hc_tokens.specs.declared.tree.Num.{Num}
 use Rattle.hc_lines.specs.declared.tree.Stmt.{Stmt}
 use Rattle.hc_lines.specs.declared.line.Line.TheVariants as g
 use Rattle.hc_lines.specs.Grammar.{Text}

@@ -1,13 +1,11 @@
 -- The rows of a design all have their places.
-use Rattle.std.proofs.Common.{◌≡◌, ℕ, suc, ◌≤◌, nat_lt, Bool, true, false, cond, List, [], ◌∷◌, ◌++◌, map, length, Option, Some, None, Ok, refl, sym, ◌∙◌, ap, subst, append_assoc, arith}
+use Rattle.std.proofs.Common.{◌≡◌, ℕ, suc, ◌≤◌, nat_lt, true, cond, List, [], ◌∷◌, ◌++◌, map, length, Some, None, refl, sym, ◌∙◌, ap, subst, append_assoc, arith}
 use Rattle.std.specs.Option.{option_map}
 use Rattle.std.proofs.lemmas.Bool.Decides.{nat_tests}
-use Rattle.hc_tokens.specs.declared.tree.Num.{Num}
 use Rattle.hc_lines.specs.declared.tree.What.TheVariants as what
 use Rattle.hc_lines.specs.declared.tree.Stmt.{Stmt}
 use Rattle.hc_lines.specs.declared.line.Line.TheVariants as g
 use Rattle.hc_lines.specs.Grammar.{Text}
-use Rattle.hc_lines.specs.declared.line.Line.{Line}
 use Rattle.hc_lang.specs.declared.tree.Head.{Head}
 use Rattle.hc_lang.specs.declared.tree.CircuitText.{CircuitText}
 use Rattle.hc_lang.specs.declared.tree.TopLine.{TopLine}
@@ -20,10 +18,10 @@ use Rattle.hc_lang.specs.declared.outline.Place.TheVariants as place
 use Rattle.hc_lang.specs.declared.outline.Outline.{Outline}
 use Rattle.hc_lang.specs.Reads as r
 use Rattle.hc_lang.specs.Reads.{Row, AreStmts, AreCircuits, IsBench, AreDesign, head_row, step_row, stmt, most_opened}
-use Rattle.hc_lang.specs.Found.{Found, found, and_then}
-use Rattle.hc_lang.specs.Structure.{circuit, block, closed, outline, bench_line, top_line, steps, start, design_of, misplaced_at}
+use Rattle.hc_lang.specs.Found.{found, and_then}
+use Rattle.hc_lang.specs.Structure.{circuit, block, closed, outline, steps, start, design_of, misplaced_at}
 use Rattle.hc_lang.proofs.Stmts.{append-nil}
-use Rattle.hc_lang.proofs.Depth.{past_stmts, most_opened-least, most_opened-right}
+use Rattle.hc_lang.proofs.Depth.{past_stmts, most_opened-least}
 use Rattle.hc_lang.proofs.Places.{block_line, top_row}
 
 -- a circuit with these parts so far

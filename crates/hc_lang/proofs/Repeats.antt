@@ -6,8 +6,7 @@ use Rattle.hc_lines.specs.Grammar.{Text}
 use Rattle.hc_lines.specs.declared.line.Line.{Line}
 use Rattle.hc_lines.specs.declared.line.Line.TheVariants as g
 use Rattle.hc_lang.specs.Reads.{Row, repeats, circuit_name, first_repeated}
-use Rattle.hc_lang.specs.FirstForm.{is_among}
-use Rattle.hc_lang.proofs.Distinct.{text_at, has, has-among, seen_next}
+use Rattle.hc_lang.proofs.Distinct.{is_among, text_at, has, has-among, seen_next}
 
 one_row : (s t : List Text) (l : Line) → ((w : Text) → is_among w s ≡ is_among w t) → (repeats s l ≡ repeats t l) × ((w : Text) → is_among w (circuit_name l ++ s) ≡ is_among w (circuit_name l ++ t))
 one_row s t (g.Circuit w ps) h = (h w, λ v. ap (λ b. same_bytes v w || b) (h v))

@@ -9,7 +9,7 @@ use Rattle.hc_lang.specs.declared.outline.Opening.TheVariants as opening
 use Rattle.hc_lang.specs.declared.outline.Block.{Block}
 use Rattle.hc_lang.specs.Reads as r
 use Rattle.hc_lang.specs.Reads.{Row, AreStmts, AreCircuits, head_row, stmt}
-use Rattle.hc_lang.specs.Structure.{block_of, closed}
+use Rattle.hc_lang.specs.Structure.{block_of}
 
 pub append-nil : {A : Type 0} (xs : List A) → xs ++ [] ≡ xs
 append-nil [] = refl

@@ -1,15 +1,12 @@
 -- Rows have their places exactly where they go on to a design.
-use Rattle.std.proofs.Common.{◌≡◌, ◌⊎◌, ℕ, suc, ◌≤◌, List, [], ◌∷◌, ◌++◌, map, length, Option, Some, None, Ok, Err, refl, sym, ◌∙◌, ap, subst, append_assoc, arith}
+use Rattle.std.proofs.Common.{◌≡◌, ℕ, ◌≤◌, List, [], ◌∷◌, ◌++◌, Option, Some, None, Ok, Err, refl, sym, ◌∙◌, ap, subst, append_assoc, arith}
 use Rattle.hc_fault.specs.declared.fault.FaultKind.{FaultKind}
 use Rattle.hc_fault.specs.declared.fault.FaultKind.TheVariants as fault
 use Rattle.hc_lines.specs.declared.tree.Stmt.{Stmt}
 use Rattle.hc_lines.specs.declared.line.Line.TheVariants as g
 use Rattle.hc_lines.specs.Grammar.{Text}
-use Rattle.hc_lines.specs.declared.line.Line.{Line}
 use Rattle.hc_lang.specs.declared.tree.Head.{Head}
 use Rattle.hc_lang.specs.declared.tree.CircuitText.{CircuitText}
-use Rattle.hc_lang.specs.declared.tree.TopLine.{TopLine}
-use Rattle.hc_lang.specs.declared.tree.BenchLine.{BenchLine}
 use Rattle.hc_lang.specs.declared.tree.Design.{Design}
 use Rattle.hc_lang.specs.declared.outline.Block.{Block}
 use Rattle.hc_lang.specs.declared.outline.Place.{Place}
@@ -18,11 +15,11 @@ use Rattle.hc_lang.specs.declared.outline.Outline.{Outline}
 use Rattle.hc_lang.specs.Reads as r
 use Rattle.hc_lang.specs.Reads.{Row, AreCircuits, AreDesign, GoesOn, IsMisplaced, open_blocks, most_opened}
 use Rattle.hc_lang.specs.Found.{Found, found, and_then}
-use Rattle.hc_lang.specs.Structure.{circuit, closed, outline, top_line, step, steps, start, design, design_at, design_of, open_line, misplaced_at}
+use Rattle.hc_lang.specs.Structure.{circuit, closed, outline, top_line, step, steps, start, design, design_at, design_of, misplaced_at}
 use Rattle.hc_lang.proofs.Stmts.{append-nil}
 use Rattle.hc_lang.proofs.Depth.{Depth, none_open, few_open, one_more}
-use Rattle.hc_lang.proofs.Places.{InCircuit, Stands, lines_at, block_line, top_row, whole, stands_next}
-use Rattle.hc_lang.proofs.Placing.{Led, design_led}
+use Rattle.hc_lang.proofs.Places.{Stands, lines_at, whole, stands_next}
+use Rattle.hc_lang.proofs.Placing.{design_led}
 
 -- ---- the outline of rows stands for them
 

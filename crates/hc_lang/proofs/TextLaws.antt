@@ -1,5 +1,5 @@
 -- A text parses to the design that is read from it, and else has the fault that the reading stops with.
-use Rattle.std.proofs.Common.{◌≡◌, ◌⊎◌, inl, inr, ℕ, ◌+◌, ◌≤◌, Bool, true, false, not, ◌||◌, List, [], ◌∷◌, ◌++◌, map, length, Option, Some, None, Ok, Err, refl, sym, ◌∙◌, ap, subst, arith}
+use Rattle.std.proofs.Common.{◌≡◌, ◌⊎◌, inl, inr, ℕ, ◌+◌, ◌≤◌, Bool, true, false, not, ◌||◌, List, [], ◌∷◌, ◌++◌, map, Option, Some, None, Ok, Err, refl, sym, ◌∙◌, ap, subst, arith}
 use Rattle.std.specs.List.{list_any}
 use Rattle.hc_fault.specs.declared.fault.FaultKind.{FaultKind}
 use Rattle.hc_fault.specs.declared.fault.FaultKind.TheVariants as fault
@@ -21,7 +21,7 @@ use Rattle.hc_lang.specs.TextReading.{bad_line, finished, of_rows, parsed}
 use Rattle.hc_lang.proofs.NotAscii.{all_allowed, no_bad_line, earliest_bad, bad_earliest}
 use Rattle.hc_lang.proofs.RowLaws.{rows_read, rows_are, one_reading, earliest_stuck, stuck_earliest}
 use Rattle.hc_lang.proofs.Places.{Stands, lines_at, block_line, whole, top_row}
-use Rattle.hc_lang.proofs.StructureLaws.{Upto, upto, placed_goes, goes_placed, stopped_misplaced, misplaced_stopped, design_found, found_design}
+use Rattle.hc_lang.proofs.StructureLaws.{upto, placed_goes, goes_placed, stopped_misplaced, misplaced_stopped, design_found, found_design}
 use Rattle.hc_lang.proofs.Tops.{NoTops, circuits-NoTops}
 
 -- ---- faults one after the other

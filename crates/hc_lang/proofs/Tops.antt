@@ -6,8 +6,6 @@ use Rattle.hc_lang.specs.declared.tree.CircuitText.{CircuitText}
 use Rattle.hc_lang.specs.declared.tree.BenchLine.{BenchLine}
 use Rattle.hc_lang.specs.declared.tree.Design.{Design}
 use Rattle.hc_lines.specs.declared.line.Line.TheVariants as g
-use Rattle.hc_lines.specs.Grammar.{Text}
-use Rattle.hc_lines.specs.declared.line.Line.{Line}
 use Rattle.hc_lang.specs.Reads as r
 use Rattle.hc_lang.specs.Reads.{Row, is_top, head_row, AreStmts, AreCircuits, IsBench, AreDesign, GoesOn}
 

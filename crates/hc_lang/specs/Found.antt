@@ -18,11 +18,6 @@ abbrev pub found_map : {A B : Type 0} → (A → B) → Found A → Found B
 found_map f (Ok a) = Ok (f a)
 found_map f (Err e) = Err e
 
--- what was found, if it was
-abbrev pub some_found : {A : Type 0} → Found A → Option A
-some_found (Ok a) = Some a
-some_found (Err e) = None
-
 -- a fault of this kind, where there is a line for it
 abbrev pub pass : FaultKind → Option ℕ → Found (Unit {0})
 pass k None = Ok tt

@@ -1,11 +1,11 @@
 ghost use Rattle.std.specs.Prelude.{◌≡◌, ◌≤◌, ◌<◌, ◌^◌, length};
+ghost use Rattle.hc_tokens.specs.Tokens.{is_allowed};
 ghost use Rattle.hc_lang.specs.Reads.{Answers};
 ghost use Rattle.hc_lang.specs.Found as f;
 ghost use Rattle.hc_lang.specs.Found.{Gives};
 ghost use Rattle.hc_lang.specs.Structure as s;
 ghost use Rattle.hc_lang.specs.TextReading as t;
 
-use crate::first_form::is_allowed;
 use crate::names::{first_repeated, first_reserved};
 use crate::outline::{Block, Outline, Place};
 use crate::row::{NumberedLine, rows};
@@ -15,6 +15,13 @@ use crate::text_stop::TextStop;
 use crate::tree::Design;
 use hc_fault::{Fault, FaultKind, ItemList, Refused};
 use std::alloc::Global;
+
+/// Whether a text may have the byte.
+fn is_allowed(byte: u8) -> bool
+    ensures { result ≡ is_allowed byte }
+{
+    byte == b'\t' || byte == b'\n' || byte == b'\r' || (32 <= byte && byte <= 126)
+}
 
 /// The line of the first byte that is not allowed.
 fn bad_line(text: &[u8]) -> Option<u32>

@@ -1,4 +1,3 @@
-use Rattle.std.proofs.Common.{sym, ◌∙◌}
 use Rattle.hc_lang.proofs.StructureSteps.{goes_on, stops_all, left_over}
 use Rattle.hc_lang.proofs.structure.outlined.Goals as goal
 

@@ -1,4 +1,4 @@
-use Rattle.std.proofs.Common.{sym, ap, subst}
+use Rattle.std.proofs.Common.{sym, subst}
 use Rattle.hc_lang.specs.Found.{Gives}
 use Rattle.hc_lang.specs.Structure as s
 use Rattle.hc_lang.proofs.StructureSteps.{outside}

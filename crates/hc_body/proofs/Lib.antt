@@ -8,3 +8,9 @@ pub mod Frames
 pub mod Matched
 pub mod Sound
 pub mod Bodies
+pub mod Runs
+pub mod Turns
+pub mod Choice
+pub mod NewNames
+pub mod Finished
+pub mod LastLines

@@ -8,6 +8,8 @@ pub mod Instances
 pub mod Elaborated
 pub mod BodyOf
 pub mod Children
+pub mod Running
+pub mod Opened
 pub mod TopCall
 pub mod InstStops
 pub mod Gives

@@ -1,3 +1,9 @@
 pub mod Marks
 pub mod Texts
 pub mod Called
+pub mod SamePaths
+pub mod Alike
+pub mod OneText
+pub mod FirstPlaces
+pub mod Reaching
+pub mod OfTrees

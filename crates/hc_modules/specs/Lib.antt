@@ -1,3 +1,4 @@
 pub mod Uses
 pub mod HierarchyText
 pub mod Pieces
+pub mod VerilogText

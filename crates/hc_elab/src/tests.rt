@@ -49,7 +49,11 @@ fn two_levels(rt: HostRuntime) -> Result<(), Fail> {
 #[test]
 fn faults(rt: HostRuntime) -> Result<(), Fail> {
     let rows = [
-        ("circuit c\noutput y 1\nassign y y\ntop c\n", FaultKind::CombLoop, 0),
+        (
+            "circuit c\noutput y 1\nassign y y\ntop c\n",
+            FaultKind::CombLoop,
+            0,
+        ),
         (
             "circuit c\noutput y 1\ninst p c :\nassign y p.y\ntop c\n",
             FaultKind::TooDeep,

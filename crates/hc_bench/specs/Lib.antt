@@ -1,0 +1,6 @@
+pub mod Steps
+pub mod Answers
+pub mod Listing
+pub mod Sent
+pub mod Simulation
+pub mod Trace

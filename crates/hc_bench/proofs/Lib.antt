@@ -1,2 +1,3 @@
 pub mod BenchSteps
 pub mod Pieces
+pub mod Rows

@@ -2,6 +2,7 @@
 use Rattle.std.specs.Prelude.{◌≡◌, ℕ, zero, suc, ◌<◌, ◌≤◌, List, [], ◌∷◌, length, slice_set}
 use Rattle.hc_bits.specs.BitVector.{BitVector}
 use Rattle.hc_signal.specs.Tree.{Tree, graph, IsWhole}
+use Rattle.hc_signal.specs.Checked.{IsChecked}
 use Rattle.hc_signal.specs.Occurrences.{Occurrence, HasCombLoop}
 use Rattle.hc_bench.specs.declared.kinds.Step.{Step}
 use Rattle.hc_bench.specs.declared.kinds.Step.TheVariants.{Set, Cycle, Reset}
@@ -47,9 +48,11 @@ pub record Simulation : Type 0 where
   pub before : List ℕ
   pub after : List ℕ
 
--- The tree is whole and has no combinational loop; the state, the inputs and the outputs are those of the tree.
+-- The tree is whole and without a combinational loop, and its graph is checked. The state, the inputs and the outputs are
+-- those of the tree.
 pub record IsSimulation (sim : Simulation) : Type 0 where
   pub whole : IsWhole sim.tree
+  pub checked : IsChecked (graph sim.tree)
   pub no_loop : ¬ HasCombLoop sim.tree
   pub state : IsStateOf sim.tree sim.state
   pub inputs : length sim.inputs ≡ length (graph sim.tree).ports.inputs

@@ -4,3 +4,4 @@ pub mod Listing
 pub mod Sent
 pub mod Simulation
 pub mod Trace
+pub mod Playing

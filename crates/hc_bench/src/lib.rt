@@ -6,7 +6,9 @@ pub mod kinds;
 mod lines;
 mod listing;
 pub mod make;
+mod run;
 mod sends;
 mod sim;
 
+pub use run::play;
 pub use sim::Sim;

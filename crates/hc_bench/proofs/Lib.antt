@@ -1,0 +1,4 @@
+pub mod BenchSteps
+pub mod Pieces
+pub mod Rows
+pub mod Plays

@@ -1,0 +1,7 @@
+pub mod Steps
+pub mod Answers
+pub mod Listing
+pub mod Sent
+pub mod Simulation
+pub mod Trace
+pub mod Playing

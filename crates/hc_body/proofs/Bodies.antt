@@ -12,13 +12,14 @@ use Rattle.hc_signal.specs.declared.signal.Ports.{Ports}
 use Rattle.hc_signal.specs.declared.signal.Instance.{Instance}
 use Rattle.hc_signal.specs.Builds.{port}
 use Rattle.hc_signal.specs.Weight.{graph_weight}
-use Rattle.hc_body.specs.declared.kinds.Child.{Child}
+use Rattle.hc_statements.specs.declared.kinds.Child.{Child}
 use Rattle.hc_body.specs.declared.kinds.Body.{Body}
-use Rattle.hc_body.specs.Unrolled.{Item, Do, Stop, unrolled}
-use Rattle.hc_body.specs.PortWidths.{PortWidths, port_widths, parameters, inputs_of, outputs_of, ports_of}
-use Rattle.hc_body.specs.Steps.{Elaborating, Broken, nothing}
-use Rattle.hc_body.specs.Statements.{open_input, open_output, open_head, open_heads}
-use Rattle.hc_body.specs.Elaborated.{fault_at, most_weight, weighed, statement_step, statement, elaborated, go_on, after_heads, call_elaborated}
+use Rattle.hc_statements.specs.Unrolled.{Item, Do, Stop, unrolled}
+use Rattle.hc_statements.specs.PortWidths.{PortWidths, port_widths, parameters, inputs_of, outputs_of, ports_of}
+use Rattle.hc_statements.specs.Steps.{Broken, nothing}
+use Rattle.hc_statements.specs.declared.state.Elaborating.{Elaborating}
+use Rattle.hc_statements.specs.Statements.{open_input, open_output, open_head, open_heads}
+use Rattle.hc_statements.specs.Elaborated.{fault_at, most_weight, weighed, statement_step, statement, elaborated, go_on, after_heads, call_elaborated}
 use Rattle.hc_body.specs.BodyOf.{BodyOf, broken, no_outputs, many_ports, undriven, whole, body_of, IsCallOf}
 use Rattle.hc_body.specs.Children.{AreChildrenOf}
 use Rattle.hc_body.proofs.Matched.{Fits, matched_none, matched_many, matched_call, matched_fits}

@@ -13,10 +13,10 @@ use Rattle.hc_lines.specs.declared.tree.What.TheOpen.{What-F}
 use Rattle.hc_lines.specs.declared.tree.What.TheFolds.{fold-What, fold-roll-What, fold_out-Stmt}
 use Rattle.hc_num.specs.Value.{Bindings, Outcome}
 use Rattle.hc_unfold.specs.Signals.{number}
-use Rattle.hc_body.specs.Steps.{Elaborating}
+use Rattle.hc_statements.specs.declared.state.Elaborating.{Elaborating}
 use Rattle.hc_body.specs.Running.{and_then, counted_on, on_line, run}
 use Rattle.hc_body.proofs.Runs.{block_events}
-use Rattle.hc_body.specs.Unrolled.{Runs, Events, Counts, block, branch, events, events_of, what_level, stmt_level}
+use Rattle.hc_statements.specs.Unrolled.{Runs, Events, Counts, block, branch, events, events_of, what_level, stmt_level}
 
 abbrev what_runs : What → ℕ → Runs
 what_runs = fold-What (ℕ → Runs) Runs what_level stmt_level

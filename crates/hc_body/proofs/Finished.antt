@@ -18,11 +18,11 @@ use Rattle.hc_signal.specs.Lawful.{IsLawful}
 use Rattle.hc_signal.specs.Checked.{IsChecked, Breaks, Rule, some_output, few_ports, all_driven}
 use Rattle.hc_check.specs.CheckStop.{kind_of}
 use Rattle.hc_body.specs.declared.kinds.Body.{Body}
-use Rattle.hc_body.specs.PortWidths.{parameters}
-use Rattle.hc_body.specs.Unrolled.{unrolled}
-use Rattle.hc_body.specs.Steps.{Elaborating}
-use Rattle.hc_body.specs.Elaborated.{fault_at, call_elaborated}
-use Rattle.hc_body.specs.Gives.{IsAnswer, Refuses, Tells}
+use Rattle.hc_statements.specs.PortWidths.{parameters}
+use Rattle.hc_statements.specs.Unrolled.{unrolled}
+use Rattle.hc_statements.specs.declared.state.Elaborating.{Elaborating}
+use Rattle.hc_statements.specs.Elaborated.{fault_at, call_elaborated}
+use Rattle.hc_statements.specs.Gives.{IsAnswer, Refuses, Tells}
 use Rattle.hc_body.specs.BodyOf.{BodyOf, broken, no_outputs, many_ports, undriven, whole, body_of, broken_line}
 
 words_bound : (ms : List Memory) → ((m : Memory) → Has ms m → m.size ≤ 65536) → sum_by (λ (m : Memory). m.size) ms ≤ 65536 * length ms

@@ -24,8 +24,8 @@ use Rattle.hc_unfold.specs.Derived.{sign_bit, part, zeros, ne, not_lt, lts, mux2
 use Rattle.hc_unfold.specs.Calls.{unary, binary, ternary, adjusted, const, choice, concatenation, plain, of_signals, with_number, const_alone, select_from, with_numbers, called, operated}
 use Rattle.hc_unfold.specs.Places.{key, meant, numbers}
 use Rattle.hc_unfold.specs.Outputs.{instance_output}
-use Rattle.hc_body.specs.Registers.{clear_in, init_in, selects_are_bits, clear_node, row, register}
-use Rattle.hc_body.specs.Statements.{wire, memory, next_memory, new_memory}
+use Rattle.hc_statements.specs.Registers.{clear_in, init_in, selects_are_bits, clear_node, row, register}
+use Rattle.hc_statements.specs.Statements.{wire, memory, next_memory, new_memory}
 use Rattle.hc_unfold.specs.Nodes.{sized, output_of, read_from, node_of, nodes_of}
 
 -- the second graph has the ports and the instances of the first

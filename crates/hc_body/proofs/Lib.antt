@@ -1,7 +1,3 @@
-pub mod Known
-pub mod HeadSteps
-pub mod Connected
-pub mod Instanced
 pub mod Single
 pub mod TopCalls
 pub mod Frames

@@ -5,9 +5,9 @@ use Rattle.hc_lang.specs.declared.tree.CircuitText.{CircuitText}
 use Rattle.hc_lang.specs.declared.tree.Design.{Design}
 use Rattle.hc_signal.specs.declared.signal.Instance.{Instance}
 use Rattle.hc_signal.specs.Builds.{change_at, labelled_instance}
-use Rattle.hc_body.specs.declared.kinds.Child.{Child}
+use Rattle.hc_statements.specs.declared.kinds.Child.{Child}
 use Rattle.hc_body.specs.BodyOf.{IsCall, IsCallOf}
-use Rattle.hc_body.specs.PortWidths.{port_widths, ports_of}
+use Rattle.hc_statements.specs.PortWidths.{port_widths, ports_of}
 
 module _ (d : Design) where
   -- a call of the design, and an instance with the ports of that call

@@ -10,7 +10,7 @@ use Rattle.hc_num.specs.Value.{Bindings, value}
 use Rattle.hc_unfold.specs.Names.{Names, Key, meaning, same_key}
 use Rattle.hc_unfold.specs.declared.names.Target.{Target}
 use Rattle.hc_unfold.specs.Drawing.{and_then, as_width}
-use Rattle.hc_body.specs.PortWidths.{PortWidths, before, at_line, is_among, new_name, width_of, widths_after, repeats, parameters, port_widths}
+use Rattle.hc_statements.specs.PortWidths.{PortWidths, before, at_line, is_among, new_name, width_of, widths_after, repeats, parameters, port_widths}
 use Rattle.hc_body.specs.Opened.{AreNew}
 
 -- a name that is not among these has no meaning yet

@@ -7,17 +7,18 @@ use Rattle.hc_fault.specs.declared.fault.Fault.{Fault}
 use Rattle.hc_fault.specs.declared.fault.Path.{Path}
 use Rattle.hc_fault.specs.declared.fault.Refused.{Refused}
 use Rattle.hc_fault.specs.declared.fault.Refused.TheVariants as refused
-use Rattle.hc_body.specs.Gives.{Refuses}
+use Rattle.hc_statements.specs.Gives.{Refuses}
 use Rattle.hc_lang.specs.declared.tree.Design.{Design}
 use Rattle.hc_lang.specs.declared.tree.CircuitText.{CircuitText}
 use Rattle.hc_lines.specs.declared.tree.Stmt.{Stmt}
-use Rattle.hc_body.specs.PortWidths.{PortWidths, port_widths, parameters}
+use Rattle.hc_statements.specs.PortWidths.{PortWidths, port_widths, parameters}
 use Rattle.hc_body.specs.Opened.{opened, opened_with}
-use Rattle.hc_body.specs.Statements.{open_heads}
+use Rattle.hc_statements.specs.Statements.{open_heads}
 use Rattle.hc_num.specs.Value.{Bindings}
-use Rattle.hc_body.specs.Unrolled.{turn, Events, Does, Counts, Stops, block, events, events_of, Do, Stop, counted, count_of, most_counted, unrolled}
-use Rattle.hc_body.specs.Steps.{Elaborating, nothing}
-use Rattle.hc_body.specs.Elaborated.{fault_at, statement, elaborated, go_on, first_step, weighed, after_heads, call_elaborated}
+use Rattle.hc_statements.specs.Unrolled.{turn, Events, Does, Counts, Stops, block, events, events_of, Do, Stop, counted, count_of, most_counted, unrolled}
+use Rattle.hc_statements.specs.Steps.{nothing}
+use Rattle.hc_statements.specs.declared.state.Elaborating.{Elaborating}
+use Rattle.hc_statements.specs.Elaborated.{fault_at, statement, elaborated, go_on, first_step, weighed, after_heads, call_elaborated}
 use Rattle.hc_body.specs.Running.{Progress, IsPlain, and_then, with_count, counted_on, after_event, run}
 
 -- what was drawn, without the count

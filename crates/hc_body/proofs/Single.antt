@@ -9,8 +9,8 @@ use Rattle.hc_lang.specs.declared.tree.Design.{Design}
 use Rattle.hc_signal.specs.Checked.{IsChecked, Breaks, Rule, some_output, few_ports, all_driven}
 use Rattle.hc_check.proofs.Verdicts.{one_broken, not_both}
 use Rattle.hc_body.specs.declared.kinds.Body.{Body}
-use Rattle.hc_body.specs.Steps.{Elaborating}
-use Rattle.hc_body.specs.Elaborated.{fault_at, call_elaborated}
+use Rattle.hc_statements.specs.declared.state.Elaborating.{Elaborating}
+use Rattle.hc_statements.specs.Elaborated.{fault_at, call_elaborated}
 use Rattle.hc_body.specs.BodyOf.{BodyOf, broken, no_outputs, many_ports, undriven, whole, body_of, line_past, line_of}
 
 module _ (d : Design) (c : CircuitText) (args : List ℤ) (path : Path) where

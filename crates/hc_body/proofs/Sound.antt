@@ -21,19 +21,20 @@ use Rattle.hc_unfold.specs.Places.{key, numbers}
 use Rattle.hc_num.specs.Value.{Outcome}
 use Rattle.hc_unfold.specs.Nodes.{node_of}
 use Rattle.hc_unfold.specs.Signals.{Place, Signal}
-use Rattle.hc_body.specs.declared.kinds.Child.{Child}
-use Rattle.hc_body.specs.declared.kinds.Call.{Call}
+use Rattle.hc_statements.specs.declared.kinds.Child.{Child}
+use Rattle.hc_statements.specs.declared.kinds.Call.{Call}
 use Rattle.hc_body.specs.BodyOf.{IsCallOf}
 use Rattle.hc_signal.specs.declared.signal.Port.{Port}
-use Rattle.hc_body.specs.PortWidths.{PortWidths, port_widths, inputs_of, ports_of}
-use Rattle.hc_body.specs.Steps.{Elaborating, Broken, Steps, go_on, ◌>>=◌, answer, fails, given, demand, rule, with_graph, lifted, draw, changed, change, meaning_of, is_new, bind, define, declare}
-use Rattle.hc_body.specs.Unrolled.{Text, Statement, Let, Wire, Assign, Label, Reg, Memory, Write, Inst}
-use Rattle.hc_body.specs.Statements.{signal_node, optional, as_wire, wire_named, memory_named, let_step, wire_step, drive, assign_step, put_label, label_step, clear_part, reg_step, memory_step, write, write_step}
-use Rattle.hc_body.specs.Instances.{Connected, circuit_place, ident_of, widths_of, unconnected, open_place, has_width, fits, connect, connections, all_connected, connected, next_instance, placed, with_widths, instantiated, arguments, circuit_at, inst_step}
-use Rattle.hc_body.specs.Elaborated.{statement_step}
+use Rattle.hc_statements.specs.PortWidths.{PortWidths, port_widths, inputs_of, ports_of}
+use Rattle.hc_statements.specs.Steps.{Broken, Steps, go_on, ◌>>=◌, answer, fails, given, demand, rule, with_graph, lifted, draw, changed, change, meaning_of, is_new, bind, define, declare}
+use Rattle.hc_statements.specs.declared.state.Elaborating.{Elaborating}
+use Rattle.hc_statements.specs.Unrolled.{Text, Statement, Let, Wire, Assign, Label, Reg, Memory, Write, Inst}
+use Rattle.hc_statements.specs.Statements.{signal_node, optional, as_wire, wire_named, memory_named, let_step, wire_step, drive, assign_step, put_label, label_step, clear_part, reg_step, memory_step, write, write_step}
+use Rattle.hc_statements.specs.Instances.{Connected, circuit_place, ident_of, widths_of, unconnected, open_place, has_width, fits, connect, connections, all_connected, connected, next_instance, placed, with_widths, instantiated, arguments, circuit_at, inst_step}
+use Rattle.hc_statements.specs.Elaborated.{statement_step}
 use Rattle.hc_body.proofs.Frames.{Frame, Frames, node_of_frames, wire_frames, register_frames, new_memory_frames}
 use Rattle.hc_body.proofs.Matched.{Fits, Matched, matched_last, matched_labelled}
-use Rattle.hc_body.proofs.Connected.{numbers_count}
+use Rattle.hc_statements.proofs.Connected.{numbers_count}
 
 module _ (d : Design) (ports : Ports) where
   pub record Sound (e : Elaborating) : Type 0 where

@@ -8,12 +8,12 @@ use Rattle.hc_lang.specs.declared.tree.TopLine.{TopLine}
 use Rattle.hc_lang.specs.declared.tree.Design.{Design}
 use Rattle.hc_unfold.specs.Signals.{number}
 use Rattle.hc_unfold.specs.Places.{numbers}
-use Rattle.hc_body.specs.declared.kinds.Call.{Call}
-use Rattle.hc_body.specs.Instances.{circuit_place}
-use Rattle.hc_body.specs.Elaborated.{fault_at}
+use Rattle.hc_statements.specs.declared.kinds.Call.{Call}
+use Rattle.hc_statements.specs.Instances.{circuit_place}
+use Rattle.hc_statements.specs.Elaborated.{fault_at}
 use Rattle.hc_body.specs.BodyOf.{IsCall}
 use Rattle.hc_body.specs.TopCall.{top_path, called_with, counted, named, top_call}
-use Rattle.hc_body.proofs.Connected.{values_count}
+use Rattle.hc_statements.proofs.Connected.{values_count}
 
 same_number : (a b : ℕ) → (a == b) ≡ true → a ≡ b
 same_number a b t = grind arith

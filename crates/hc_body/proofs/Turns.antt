@@ -10,8 +10,8 @@ use Rattle.hc_fault.specs.declared.fault.Refused.{Refused}
 use Rattle.hc_fault.specs.declared.fault.Refused.TheVariants as refused
 use Rattle.hc_lang.specs.declared.tree.Design.{Design}
 use Rattle.hc_num.specs.Value.{Bindings}
-use Rattle.hc_body.specs.Gives.{Refuses}
-use Rattle.hc_body.specs.Unrolled.{Events, count_up, room, range}
+use Rattle.hc_statements.specs.Gives.{Refuses}
+use Rattle.hc_statements.specs.Unrolled.{Events, count_up, room, range}
 use Rattle.hc_body.specs.Running.{Progress, and_then, run}
 use Rattle.hc_body.proofs.Runs.{run_append}
 

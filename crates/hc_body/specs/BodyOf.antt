@@ -9,12 +9,12 @@ use Rattle.hc_lang.specs.declared.tree.Design.{Design}
 use Rattle.hc_signal.specs.declared.signal.NodeId.{NodeId}
 use Rattle.hc_signal.specs.Weight.{graph_weight, graph_words}
 use Rattle.hc_signal.specs.Checked.{IsChecked, Breaks, Rule, some_output, few_ports, all_driven}
-use Rattle.hc_body.specs.declared.kinds.Call.{Call}
+use Rattle.hc_statements.specs.declared.kinds.Call.{Call}
 use Rattle.hc_body.specs.declared.kinds.Body.{Body}
-use Rattle.hc_body.specs.Unrolled.{unrolled}
-use Rattle.hc_body.specs.PortWidths.{parameters}
-use Rattle.hc_body.specs.Steps.{Elaborating}
-use Rattle.hc_body.specs.Elaborated.{fault_at, call_elaborated}
+use Rattle.hc_statements.specs.Unrolled.{unrolled}
+use Rattle.hc_statements.specs.PortWidths.{parameters}
+use Rattle.hc_statements.specs.declared.state.Elaborating.{Elaborating}
+use Rattle.hc_statements.specs.Elaborated.{fault_at, call_elaborated}
 
 -- the call's circuit is there, and it has an argument for each parameter
 pub record IsCallOf (d : Design) (call : Call) (c : CircuitText) : Type 0 where

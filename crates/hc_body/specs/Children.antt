@@ -3,9 +3,9 @@ use Rattle.std.specs.Prelude.{◌≡◌, ℕ, List, length, slice_get, Some, Ok}
 use Rattle.hc_lang.specs.declared.tree.CircuitText.{CircuitText}
 use Rattle.hc_lang.specs.declared.tree.Design.{Design}
 use Rattle.hc_signal.specs.declared.signal.Instance.{Instance}
-use Rattle.hc_body.specs.declared.kinds.Child.{Child}
+use Rattle.hc_statements.specs.declared.kinds.Child.{Child}
 use Rattle.hc_body.specs.declared.kinds.Body.{Body}
-use Rattle.hc_body.specs.PortWidths.{port_widths, ports_of}
+use Rattle.hc_statements.specs.PortWidths.{port_widths, ports_of}
 use Rattle.hc_body.specs.BodyOf.{IsCall, IsCallOf}
 
 -- A child for each instance: its call is one of the design, and the instance has the ports of the circuit that is called.

@@ -1,15 +1,5 @@
-pub mod Unrolled
-pub mod PortWidths
-pub mod Steps
-pub mod Registers
-pub mod Statements
-pub mod Connections
-pub mod Instances
-pub mod Elaborated
 pub mod BodyOf
 pub mod Children
 pub mod Running
 pub mod Opened
 pub mod TopCall
-pub mod InstStops
-pub mod Gives

@@ -6,10 +6,11 @@ use Rattle.hc_lang.specs.declared.tree.Head.{Head}
 use Rattle.hc_lang.specs.declared.tree.CircuitText.{CircuitText}
 use Rattle.hc_unfold.specs.Names.{Names, meaning}
 use Rattle.hc_unfold.specs.declared.names.Target.{Target}
-use Rattle.hc_body.specs.PortWidths.{PortWidths, port_widths}
-use Rattle.hc_body.specs.Steps.{Elaborating, nothing}
-use Rattle.hc_body.specs.Statements.{open_heads}
-use Rattle.hc_body.specs.Elaborated.{fault_at}
+use Rattle.hc_statements.specs.PortWidths.{PortWidths, port_widths}
+use Rattle.hc_statements.specs.Steps.{nothing}
+use Rattle.hc_statements.specs.declared.state.Elaborating.{Elaborating}
+use Rattle.hc_statements.specs.Statements.{open_heads}
+use Rattle.hc_statements.specs.Elaborated.{fault_at}
 
 abbrev pub opened_with : Path → CircuitText → PortWidths → Result Elaborating Fault
 opened_with path c (Err f) = Err (fault_at path f.1 f.0)

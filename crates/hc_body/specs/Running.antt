@@ -5,9 +5,9 @@ use Rattle.hc_fault.specs.declared.fault.FaultKind.TheVariants.{TooManyStatement
 use Rattle.hc_fault.specs.declared.fault.Fault.{Fault}
 use Rattle.hc_fault.specs.declared.fault.Path.{Path}
 use Rattle.hc_lang.specs.declared.tree.Design.{Design}
-use Rattle.hc_body.specs.Unrolled.{Event, Events, Does, Counts, Stops, most_counted}
-use Rattle.hc_body.specs.Steps.{Elaborating}
-use Rattle.hc_body.specs.Elaborated.{fault_at, statement}
+use Rattle.hc_statements.specs.Unrolled.{Event, Events, Does, Counts, Stops, most_counted}
+use Rattle.hc_statements.specs.declared.state.Elaborating.{Elaborating}
+use Rattle.hc_statements.specs.Elaborated.{fault_at, statement}
 
 -- how many lines and turns counted, and what was drawn
 abbrev pub Progress : Type 0

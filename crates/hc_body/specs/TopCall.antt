@@ -9,9 +9,9 @@ use Rattle.hc_lang.specs.declared.tree.TopLine.{TopLine}
 use Rattle.hc_lang.specs.declared.tree.Design.{Design}
 use Rattle.hc_unfold.specs.Signals.{number}
 use Rattle.hc_unfold.specs.Places.{numbers}
-use Rattle.hc_body.specs.declared.kinds.Call.{Call}
-use Rattle.hc_body.specs.Instances.{circuit_place}
-use Rattle.hc_body.specs.Elaborated.{fault_at}
+use Rattle.hc_statements.specs.declared.kinds.Call.{Call}
+use Rattle.hc_statements.specs.Instances.{circuit_place}
+use Rattle.hc_statements.specs.Elaborated.{fault_at}
 
 abbrev pub top_path : Path
 top_path = record { steps = [] }

@@ -3,20 +3,17 @@ ghost use Rattle.std.specs.Prelude.{◌≡◌, ◌∷◌, Ok, pos, flat_map, map
 ghost use Rattle.std.specs.Ordering.{int_eq};
 ghost use Rattle.hc_unfold.specs.Names.{AreKnown};
 ghost use Rattle.hc_unfold.specs.Signals.{number};
-ghost use Rattle.hc_body.specs.Gives.{Answers};
-ghost use Rattle.hc_body.specs.Elaborated.{first_step, weighed};
-ghost use Rattle.hc_body.specs.Unrolled.{events, events_of, range, turn};
+ghost use Rattle.hc_statements.specs.Gives.{Answers};
+ghost use Rattle.hc_statements.specs.Elaborated.{first_step, weighed};
+ghost use Rattle.hc_statements.specs.Unrolled.{events, events_of, range, turn};
 ghost use Rattle.hc_body.specs.Running.{IsPlain, and_then, counted_on, on_line};
 ghost use Rattle.hc_body.specs.Running as spec;
 ghost use Rattle.hc_lang.specs.declared.tree.Design.{Design};
 
-use crate::faults::{refused_at, refused_inside};
-use crate::instances::InstStop;
-use crate::state::Elaborating;
-use crate::statement::statement;
 use hc_fault::{FaultKind, Name, Path, Refused};
 use hc_lang::{Design, Num, Stmt, What};
 use hc_num::{Env, eval};
+use hc_statements::{Elaborating, InstStop, refused_at, refused_inside, statement};
 use std::alloc::Global;
 
 /// A body while its lines run: what was drawn, the numbers that names mean, and how many lines and turns counted.

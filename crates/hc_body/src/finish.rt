@@ -5,18 +5,18 @@ ghost use Rattle.hc_signal.specs.Checked.{Rule};
 ghost use Rattle.hc_signal.specs.declared.signal.Memory as spec_memory;
 ghost use Rattle.hc_body.specs.BodyOf.{BodyOf, broken_line};
 ghost use Rattle.hc_body.specs.BodyOf as spec;
-ghost use Rattle.hc_body.specs.Elaborated.{call_elaborated};
-ghost use Rattle.hc_body.specs.Gives.{IsAnswer};
-ghost use Rattle.hc_body.specs.PortWidths.{parameters};
-ghost use Rattle.hc_body.specs.Unrolled.{unrolled};
+ghost use Rattle.hc_statements.specs.Elaborated.{call_elaborated};
+ghost use Rattle.hc_statements.specs.Gives.{IsAnswer};
+ghost use Rattle.hc_statements.specs.PortWidths.{parameters};
+ghost use Rattle.hc_statements.specs.Unrolled.{unrolled};
 
 use crate::blocks::Running;
-use crate::faults::refused_at;
 use crate::kinds::Body;
 use hc_check::{CheckStop, check};
 use hc_fault::{FaultKind, Path, Refused};
 use hc_lang::{CircuitText, Design, Head};
 use hc_signal::{Circuit, Memory, NodeId};
+use hc_statements::refused_at;
 use hc_unfold::has_room;
 use std::alloc::Global;
 

@@ -4,10 +4,10 @@ ghost use Rattle.hc_fault.specs.declared.fault.Path.{Path};
 ghost use Rattle.hc_lang.specs.declared.tree.CircuitText.{CircuitText};
 ghost use Rattle.hc_lang.specs.declared.tree.Design.{Design};
 ghost use Rattle.hc_body.specs.declared.kinds.Body.{Body};
-ghost use Rattle.hc_body.specs.declared.kinds.Call.{Call};
+ghost use Rattle.hc_statements.specs.declared.kinds.Call.{Call};
 ghost use Rattle.hc_body.specs.BodyOf.{BodyOf, IsCall};
 ghost use Rattle.hc_body.specs.Children.{AreChildrenOf};
-ghost use Rattle.hc_body.specs.PortWidths.{port_widths, ports_of};
+ghost use Rattle.hc_statements.specs.PortWidths.{port_widths, ports_of};
 ghost use Rattle.hc_body.specs.TopCall.{top_call};
 
 /// A call of a circuit has one answer: one body, or one fault.

@@ -2,19 +2,10 @@
 #![tactic(auto)]
 
 mod blocks;
-mod circuits;
-mod faults;
 mod finish;
-mod heads;
-mod instances;
 pub mod kinds;
 pub mod laws;
-mod lines;
 pub mod make;
 mod open;
-mod state;
-mod statement;
-mod storage;
-mod taken;
 #[cfg(test)]
 mod tests;

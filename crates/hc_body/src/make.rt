@@ -1,25 +1,23 @@
 ghost use Rattle.std.specs.Prelude.{◌≡◌, [], length, map, IfOk};
 ghost use Rattle.hc_unfold.specs.Places.{numbers};
 ghost use Rattle.hc_unfold.specs.Signals.{number};
-ghost use Rattle.hc_body.specs.Gives.{Answers, IsAnswer, Tells};
+ghost use Rattle.hc_statements.specs.Gives.{Answers, IsAnswer, Tells};
 ghost use Rattle.hc_body.specs.BodyOf.{BodyOf, IsCall, IsCallOf};
-ghost use Rattle.hc_body.specs.Elaborated.{call_elaborated, call_ports, fault_at};
-ghost use Rattle.hc_body.specs.PortWidths.{parameters};
-ghost use Rattle.hc_body.specs.Unrolled.{unrolled};
+ghost use Rattle.hc_statements.specs.Elaborated.{call_elaborated, call_ports, fault_at};
+ghost use Rattle.hc_statements.specs.PortWidths.{parameters};
+ghost use Rattle.hc_statements.specs.Unrolled.{unrolled};
 ghost use Rattle.hc_body.specs.TopCall as top;
 ghost use Rattle.hc_lang.specs.declared.tree.CircuitText.{CircuitText};
 
 use crate::blocks::{Running, run_block};
-use crate::circuits::circuit_place;
-use crate::faults::refused_at;
 use crate::finish::finish;
-use crate::heads::{HeadStop, port_widths, ports};
 use crate::kinds::{Body, Call};
 use crate::open::open;
 use hc_fault::{FaultKind, ItemList, Path, Refused};
 use hc_lang::{CircuitText, Design, Num};
 use hc_num::Env;
 use hc_signal::{BuildStop, Ports};
+use hc_statements::{HeadStop, circuit_place, port_widths, ports, refused_at};
 use hc_unfold::numbers;
 use std::alloc::Global;
 

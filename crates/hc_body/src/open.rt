@@ -4,19 +4,17 @@ ghost use Rattle.hc_bits.specs.BitVector.{IsWidth};
 ghost use Rattle.hc_unfold.specs.Drawing.{next};
 ghost use Rattle.hc_unfold.specs.Names.{AreKnown, meaning};
 ghost use Rattle.hc_unfold.specs.declared.names.Target.TheVariants as target;
-ghost use Rattle.hc_body.specs.Gives.{Answers, AreWidths};
+ghost use Rattle.hc_statements.specs.Gives.{Answers, AreWidths};
 ghost use Rattle.hc_body.specs.Opened.{AreNew, opened};
-ghost use Rattle.hc_body.specs.PortWidths as head;
-ghost use Rattle.hc_body.specs.Statements as spec;
-ghost use Rattle.hc_body.specs.Steps as steps;
+ghost use Rattle.hc_statements.specs.PortWidths as head;
+ghost use Rattle.hc_statements.specs.Statements as spec;
+ghost use Rattle.hc_statements.specs.Steps as steps;
 
 use crate::blocks::Running;
-use crate::faults::refused_at;
-use crate::heads::{HeadStop, parameters, port_widths};
-use crate::state::{Elaborating, nothing};
 use hc_fault::{Name, NoMemory, Path, Refused};
 use hc_lang::{CircuitText, Head};
 use hc_signal::{Builder, NodeId};
+use hc_statements::{Elaborating, HeadStop, nothing, parameters, port_widths, refused_at};
 use hc_unfold::{Names, Target, has_room};
 use std::alloc::Global;
 
@@ -58,7 +56,6 @@ fn name_port(alloc: Global, names: &mut Names, name: &Name, id: NodeId) -> Resul
 }
 
 /// Opens an input.
-#[tactic(auto, using(crate::proofs::Known::known_input))]
 fn open_input(
     alloc: Global,
     state: &mut Elaborating,
@@ -76,7 +73,6 @@ fn open_input(
 }
 
 /// Opens an output, which is declared on its line.
-#[tactic(auto, using(crate::proofs::Known::known_output))]
 fn open_output(
     alloc: Global,
     state: &mut Elaborating,

@@ -9,7 +9,7 @@ use Rattle.hc_signal.specs.Weight.{graph_weight}
 use Rattle.hc_body.specs.declared.kinds.Body.{Body}
 use Rattle.hc_body.specs.BodyOf.{BodyOf, whole}
 use Rattle.hc_body.specs.Children.{AreChildrenOf}
-use Rattle.hc_body.specs.PortWidths.{port_widths, ports_of}
+use Rattle.hc_statements.specs.PortWidths.{port_widths, ports_of}
 
 -- ---- laws of bodies, as premises
 

@@ -16,12 +16,12 @@ use Rattle.hc_canon.proofs.Canonical.{two}
 use Rattle.hc_canon.proofs.LaidOut.{has_index}
 use Rattle.hc_dbstate.specs.declared.hier.Hier.{Hier}
 use Rattle.hc_dbstate.specs.History.{History}
-use Rattle.hc_body.specs.declared.kinds.Call.{Call}
-use Rattle.hc_body.specs.declared.kinds.Child.{Child}
+use Rattle.hc_statements.specs.declared.kinds.Call.{Call}
+use Rattle.hc_statements.specs.declared.kinds.Child.{Child}
 use Rattle.hc_body.specs.declared.kinds.Body.{Body}
 use Rattle.hc_body.specs.BodyOf.{IsCall, IsCallOf, BodyOf}
-use Rattle.hc_body.specs.Elaborated.{fault_at}
-use Rattle.hc_body.specs.Gives.{IsAnswer, Tells}
+use Rattle.hc_statements.specs.Elaborated.{fault_at}
+use Rattle.hc_statements.specs.Gives.{IsAnswer, Tells}
 use Rattle.hc_elab.specs.Elaborates.{Sums, Elaborated, Elaborates, ElaborateChildren, body_fault, many_words, child_fault, comb_loop, own_sums, most_words}
 use Rattle.hc_elab.specs.Calls.{AreElaborated, AreKidsFor, FaultIs, IsBody, IsLoop, IsWithin, entry_of}
 use Rattle.hc_elab.proofs.Bodies.{HavePorts, HaveChildren, body_checked}

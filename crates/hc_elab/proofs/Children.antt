@@ -17,9 +17,9 @@ use Rattle.hc_dbstate.specs.declared.hier.Hier.{Hier}
 use Rattle.hc_dbstate.specs.declared.turns.Entered.{Entered}
 use Rattle.hc_dbstate.specs.Elaboration.{CallView, hier_view, walk}
 use Rattle.hc_dbstate.specs.History.{History, IsLegal, log}
-use Rattle.hc_body.specs.declared.kinds.Child.{Child}
-use Rattle.hc_body.specs.Elaborated.{child_path, fault_at}
-use Rattle.hc_body.specs.Gives.{Tells}
+use Rattle.hc_statements.specs.declared.kinds.Child.{Child}
+use Rattle.hc_statements.specs.Elaborated.{child_path, fault_at}
+use Rattle.hc_statements.specs.Gives.{Tells}
 use Rattle.hc_elab.specs.Elaborates.{Sums, Elaborated, Elaborates, ElaborateChildren, no_more, too_deep, fault_in_child, past_limit, later_fault, one_more, plus, limit_passed}
 use Rattle.hc_elab.specs.Hierarchies.{LogGrew, sums_of}
 use Rattle.hc_elab.specs.Calls.{AreElaborated, AreKidsFor, FaultIs, Faults, IsAdded, IsElaborated, IsKidFor, IsWithin}

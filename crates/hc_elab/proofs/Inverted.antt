@@ -7,11 +7,11 @@ use Rattle.hc_fault.specs.declared.fault.Path.{Path}
 use Rattle.hc_lang.specs.declared.tree.CircuitText.{CircuitText}
 use Rattle.hc_lang.specs.declared.tree.Design.{Design}
 use Rattle.hc_signal.specs.Occurrences.{HasCombLoop}
-use Rattle.hc_body.specs.declared.kinds.Call.{Call}
-use Rattle.hc_body.specs.declared.kinds.Child.{Child}
+use Rattle.hc_statements.specs.declared.kinds.Call.{Call}
+use Rattle.hc_statements.specs.declared.kinds.Child.{Child}
 use Rattle.hc_body.specs.declared.kinds.Body.{Body}
 use Rattle.hc_body.specs.BodyOf.{IsCallOf, BodyOf}
-use Rattle.hc_body.specs.Elaborated.{child_path}
+use Rattle.hc_statements.specs.Elaborated.{child_path}
 use Rattle.hc_elab.specs.Elaborates.{Sums, Elaborated, Elaborates, ElaborateChildren, whole, no_more, one_more, own_sums, body_tree, elaborated_call, limit_passed}
 use Rattle.hc_elab.specs.Calls.{IsWithin}
 

@@ -8,11 +8,11 @@ use Rattle.hc_fault.specs.declared.fault.Path.{Path}
 use Rattle.hc_lang.specs.declared.tree.CircuitText.{CircuitText}
 use Rattle.hc_lang.specs.declared.tree.Design.{Design}
 use Rattle.hc_signal.specs.Occurrences.{HasCombLoop}
-use Rattle.hc_body.specs.declared.kinds.Call.{Call}
-use Rattle.hc_body.specs.declared.kinds.Child.{Child}
+use Rattle.hc_statements.specs.declared.kinds.Call.{Call}
+use Rattle.hc_statements.specs.declared.kinds.Child.{Child}
 use Rattle.hc_body.specs.declared.kinds.Body.{Body}
 use Rattle.hc_body.specs.BodyOf.{IsCallOf, BodyOf}
-use Rattle.hc_body.specs.Elaborated.{fault_at, child_path}
+use Rattle.hc_statements.specs.Elaborated.{fault_at, child_path}
 use Rattle.hc_body.specs.TopCall.{top_path}
 use Rattle.hc_elab.specs.Elaborates.{Sums, Elaborated, Elaborates, ElaborateChildren, DesignElaborates, no_call, called, body_fault, many_words, child_fault, comb_loop, whole, no_more, too_deep, fault_in_child, past_limit, later_fault, one_more, own_sums, body_tree, elaborated_call, plus, limit_passed, most_words, most_levels}
 use Rattle.hc_elab.proofs.Inverted.{one_circuit}

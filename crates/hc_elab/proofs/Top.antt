@@ -8,8 +8,8 @@ use Rattle.hc_lang.specs.declared.tree.Design.{Design}
 use Rattle.hc_signal.specs.Occurrences.{HasCombLoop}
 use Rattle.hc_dbstate.specs.declared.hier.Hier.{Hier}
 use Rattle.hc_dbstate.specs.History.{History}
-use Rattle.hc_body.specs.declared.kinds.Call.{Call}
-use Rattle.hc_body.specs.Gives.{Refuses}
+use Rattle.hc_statements.specs.declared.kinds.Call.{Call}
+use Rattle.hc_statements.specs.Gives.{Refuses}
 use Rattle.hc_body.specs.TopCall.{top_call, top_path}
 use Rattle.hc_elab.specs.Elaborates.{ElaboratedCall, Elaborated, Elaborates, DesignElaborates, no_call, called}
 use Rattle.hc_elab.specs.Hierarchies.{IsHierarchyFor}

@@ -18,11 +18,11 @@ use Rattle.hc_dbstate.specs.Elaboration.{CallView, HierView, IsCallOver, hier_vi
 use Rattle.hc_dbstate.specs.History.{History, IsLegal, log, entered}
 use Rattle.hc_dbstate.specs.Unfolding.{Denotes}
 use Rattle.hc_walk.proofs.Members.{has_cases}
-use Rattle.hc_body.specs.declared.kinds.Call.{Call}
+use Rattle.hc_statements.specs.declared.kinds.Call.{Call}
 use Rattle.hc_body.specs.declared.kinds.Body.{Body}
 use Rattle.hc_body.specs.BodyOf.{IsCallOf, BodyOf}
-use Rattle.hc_body.specs.Elaborated.{child_path}
-use Rattle.hc_body.specs.PortWidths.{port_widths, ports_of}
+use Rattle.hc_statements.specs.Elaborated.{child_path}
+use Rattle.hc_statements.specs.PortWidths.{port_widths, ports_of}
 use Rattle.hc_elab.specs.Elaborates.{Sums, ElaboratedCall, Elaborated, ElaborateChildren, whole, own_sums, body_tree, elaborated_call}
 use Rattle.hc_elab.specs.Hierarchies.{AreCallsFor, IsHierarchyFor, LogsWalk}
 use Rattle.hc_elab.specs.Calls.{IsBody, AreKidsFor, AreElaborated, IsElaborated, IsMade, entry_of, masks_in, most_below}

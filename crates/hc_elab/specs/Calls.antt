@@ -18,11 +18,11 @@ use Rattle.hc_dbstate.specs.declared.turns.Entered.{Entered}
 use Rattle.hc_dbstate.specs.Elaboration.{CallView, HierView, hier_view, walk}
 use Rattle.hc_dbstate.specs.History.{History, log}
 use Rattle.hc_dbstate.specs.Insertion.{IsInserted}
-use Rattle.hc_body.specs.declared.kinds.Call.{Call}
-use Rattle.hc_body.specs.declared.kinds.Child.{Child}
+use Rattle.hc_statements.specs.declared.kinds.Call.{Call}
+use Rattle.hc_statements.specs.declared.kinds.Child.{Child}
 use Rattle.hc_body.specs.declared.kinds.Body.{Body}
 use Rattle.hc_body.specs.BodyOf.{IsCallOf, BodyOf}
-use Rattle.hc_body.specs.Elaborated.{child_path, fault_at}
+use Rattle.hc_statements.specs.Elaborated.{child_path, fault_at}
 use Rattle.hc_elab.specs.Elaborates.{Sums, Elaborated, Elaborates, ElaborateChildren, most_levels, most_instances, most_weight, most_words, limit_passed, plus}
 use Rattle.hc_elab.specs.Hierarchies.{IsHierarchyFor, LogsWalk}
 

@@ -8,11 +8,11 @@ use Rattle.hc_lang.specs.declared.tree.CircuitText.{CircuitText}
 use Rattle.hc_lang.specs.declared.tree.Design.{Design}
 use Rattle.hc_signal.specs.Tree.{Tree, none, tree}
 use Rattle.hc_signal.specs.Occurrences.{HasCombLoop}
-use Rattle.hc_body.specs.declared.kinds.Call.{Call}
-use Rattle.hc_body.specs.declared.kinds.Child.{Child}
+use Rattle.hc_statements.specs.declared.kinds.Call.{Call}
+use Rattle.hc_statements.specs.declared.kinds.Child.{Child}
 use Rattle.hc_body.specs.declared.kinds.Body.{Body}
 use Rattle.hc_body.specs.BodyOf.{IsCallOf, BodyOf}
-use Rattle.hc_body.specs.Elaborated.{fault_at, child_path}
+use Rattle.hc_statements.specs.Elaborated.{fault_at, child_path}
 use Rattle.hc_body.specs.TopCall.{top_call, top_path}
 pub use Rattle.hc_elab.specs.declared.sums.Sums.{Sums}
 

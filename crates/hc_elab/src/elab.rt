@@ -1,8 +1,8 @@
 //! Elaboration of a design into a database: children before their parent, in the order of their lines.
 ghost use Rattle.std.specs.Prelude.{◌≡◌, ◌≤◌, ◌++◌, ◌∷◌, [], ℕ, Err, IfOk, List, None, Ok, OnOk, Some};
 ghost use Rattle.hc_body.specs.BodyOf.{IsCall, IsCallOf};
-ghost use Rattle.hc_body.specs.Elaborated.{fault_at};
-ghost use Rattle.hc_body.specs.declared.kinds.Child.{Child};
+ghost use Rattle.hc_statements.specs.Elaborated.{fault_at};
+ghost use Rattle.hc_statements.specs.declared.kinds.Child.{Child};
 ghost use Rattle.hc_dbstate.specs.Elaboration.{hier_view};
 ghost use Rattle.hc_elab.specs.Calls.{AreElaborated, Faults, IsAdded, IsBody, IsElaborated, IsWithin};
 ghost use Rattle.hc_elab.specs.Elaborates as spec;

@@ -1,7 +1,7 @@
 //! Faults with their lines and paths.
 ghost use Rattle.std.specs.Prelude.{◌≡◌, ◌++◌, ◌∷◌, [], IfOk, OnOk};
-ghost use Rattle.hc_body.specs.Elaborated.{child_path, fault_at};
-ghost use Rattle.hc_body.specs.Gives.{Tells};
+ghost use Rattle.hc_statements.specs.Elaborated.{child_path, fault_at};
+ghost use Rattle.hc_statements.specs.Gives.{Tells};
 
 use hc_fault::{Fault, FaultKind, Ident, ItemList, NoMemory, Path, Refused};
 use std::alloc::Global;

@@ -6,11 +6,11 @@ use mir.Syntax.{w64}
 use mir.Val.{to_z, of_z}
 use Rattle.std.specs.Prelude.{Result, Ok}
 use Rattle.hc_num.specs.Value.{Bindings}
-use Rattle.hc_body.specs.Unrolled.{events_of}
+use Rattle.hc_statements.specs.Unrolled.{events_of}
 use Rattle.hc_body.specs.Running.{Progress, run}
-use Rattle.hc_body.specs.Gives.{Refuses}
+use Rattle.hc_statements.specs.Gives.{Refuses}
 use Rattle.hc_fault.specs.declared.fault.Fault.{Fault}
-use Rattle.hc_body.specs.Unrolled.{Events, range, turn}
+use Rattle.hc_statements.specs.Unrolled.{Events, range, turn}
 use Rattle.hc_body.proofs.Choice.{choice_runs}
 use Rattle.hc_body.proofs.Runs.{block_more, block_refuses, turn_runs}
 use Rattle.hc_body.proofs.Turns.{turns_step, turns_stop}

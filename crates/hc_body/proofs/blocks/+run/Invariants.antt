@@ -1,6 +1,6 @@
 use Rattle.std.proofs.Common.{◌≡◌, map, flat_map, drop}
 use Rattle.hc_unfold.specs.Names.{AreKnown}
-use Rattle.hc_body.specs.Unrolled.{events, events_of, range, turn}
+use Rattle.hc_statements.specs.Unrolled.{events, events_of, range, turn}
 use Rattle.hc_body.specs.Running.{run}
 use Rattle.hc_body.proofs.blocks.+run.Given as goal
 

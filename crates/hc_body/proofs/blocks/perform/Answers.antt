@@ -1,8 +1,9 @@
 use Rattle.std.proofs.Common.{sym, ap, subst, ◌∙◌}
 use Rattle.std.specs.Prelude.{Result}
-use Rattle.hc_body.specs.Gives.{Refuses}
-use Rattle.hc_body.specs.Steps.{Elaborating, Broken}
-use Rattle.hc_body.specs.Elaborated.{weighed}
+use Rattle.hc_statements.specs.Gives.{Refuses}
+use Rattle.hc_statements.specs.Steps.{Broken}
+use Rattle.hc_statements.specs.declared.state.Elaborating.{Elaborating}
+use Rattle.hc_statements.specs.Elaborated.{weighed}
 use Rattle.hc_body.proofs.blocks.perform.Goals as goal
 
 abbrev Done : Type 0

@@ -1,7 +1,7 @@
 use Rattle.std.proofs.Common.{◌≡◌, drop}
 use Rattle.hc_unfold.specs.Names.{AreKnown}
 use Rattle.hc_body.specs.Opened.{AreNew}
-use Rattle.hc_body.specs.Statements.{open_heads}
+use Rattle.hc_statements.specs.Statements.{open_heads}
 use Rattle.hc_body.proofs.open.open_heads.Given as goal
 
 -- the heads that are left give what all give

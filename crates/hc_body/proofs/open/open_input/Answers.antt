@@ -1,4 +1,4 @@
-use Rattle.hc_body.proofs.Known.{known_input}
+use Rattle.hc_statements.proofs.Known.{known_input}
 use Rattle.hc_body.proofs.open.open_input.Goals as goal
 
 pub returns-clause-known : goal.returns-clause-known

@@ -1,4 +1,4 @@
-use Rattle.hc_body.proofs.Known.{known_output}
+use Rattle.hc_statements.proofs.Known.{known_output}
 use Rattle.hc_body.proofs.open.open_output.Goals as goal
 
 pub returns-clause-known : goal.returns-clause-known

@@ -1,8 +1,0 @@
-use Rattle.std.proofs.Common.{◌≡◌, drop}
-use Rattle.hc_body.specs.Instances.{all_connected}
-use Rattle.hc_body.proofs.Connected.{onto}
-use Rattle.hc_body.proofs.instances.all_connected.Given as goal
-
--- the nodes so far and those that are left are all
-abbrev pub invariant-done : goal.invariant-done
-invariant-done l = onto l.nodes.items (all_connected (drop l.node-index l.done)) ≡ all_connected l.done

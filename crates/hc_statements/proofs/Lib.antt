@@ -1,0 +1,4 @@
+pub mod Known
+pub mod HeadSteps
+pub mod Connected
+pub mod Instanced

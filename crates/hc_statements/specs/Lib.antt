@@ -1,0 +1,10 @@
+pub mod Unrolled
+pub mod PortWidths
+pub mod Steps
+pub mod Registers
+pub mod Statements
+pub mod Connections
+pub mod Instances
+pub mod Elaborated
+pub mod InstStops
+pub mod Gives

@@ -1,5 +1,5 @@
 -- Names that mean something of a graph, while the graph and the table grow.
-use Rattle.std.proofs.Common.{◌≡◌, ℕ, zero, suc, ◌<◌, ◌≤◌, ◌⊎◌, inl, inr, Bool, true, false, cond, List, [], ◌∷◌, ◌++◌, length, refl, sym, ap, subst, ◌∙◌, arith, length-append}
+use Rattle.std.proofs.Common.{◌≡◌, ℕ, zero, suc, ◌≤◌, ◌⊎◌, inl, inr, Bool, true, false, cond, List, [], ◌∷◌, ◌++◌, length, refl, sym, ap, subst, ◌∙◌, arith, length-append}
 use Rattle.std.specs.Prelude.{Option, Some, None, IfSome, slice_get}
 use Rattle.hc_signal.specs.declared.signal.NodeId.{NodeId}
 use Rattle.hc_signal.specs.declared.signal.MemId.{MemId}
@@ -13,6 +13,8 @@ use Rattle.hc_unfold.specs.Names.{Names, Key, AreKnown, IsThere, meaning, same_k
 use Rattle.hc_unfold.specs.declared.names.Target.{Target}
 use Rattle.hc_unfold.specs.declared.names.Target.TheVariants as target
 use Rattle.hc_unfold.specs.Gives.{Grows}
+use Rattle.hc_unfold.specs.Drawing.{next}
+use Rattle.hc_body.specs.Statements.{with_input, with_output}
 
 last_or : {X : Type 0} (xs : List X) (x y : X) → Has (xs ++ x ∷ []) y → Has xs y ⊎ (y ≡ x)
 last_or [] x y first = inr refl
@@ -136,3 +138,22 @@ grows_on g h k one two = record {
   memories = two.memories ∙ one.memories;
   instances = two.instances ∙ one.instances;
 }
+
+-- ---- ports
+
+one_longer : {A : Type 0} (xs : List A) (x : A) → length (xs ++ x ∷ []) ≡ suc (length xs)
+one_longer [] x = refl
+one_longer (y ∷ xs) x = ap suc (one_longer xs x)
+
+grown : (g h : Graph) (names more : Names) (name : List ℕ) (id : NodeId) → AreKnown g names → id ≡ next g → length h.nodes ≡ suc (length g.nodes) → h.memories ≡ g.memories → h.instances ≡ g.instances → more ≡ names ++ ((name, None), target.Node id) ∷ [] → AreKnown h more
+grown g h names more name id known is nodes mems insts e =
+    let m : length h.memories ≡ length g.memories = ap length mems in
+    let i : length h.instances ≡ length g.instances = ap length insts in
+    let place : id.0 ≡ length g.nodes = ap (λ (k : NodeId). k.0) is in
+    known_added h names more (name, None) (target.Node id) (known_longer names g h known (omega (arith, nodes)) (omega (arith, m)) (omega (arith, i))) (omega (arith, place, nodes)) e
+
+pub known_input : (g h : Graph) (names more : Names) (name : List ℕ) (w : ℕ) (id : NodeId) → AreKnown g names → id ≡ next g → h ≡ with_input g name w → more ≡ names ++ ((name, None), target.Node id) ∷ [] → AreKnown h more
+known_input g h names more name w id known is e named = grown g h names more name id known is (ap (λ (k : Graph). length k.nodes) e ∙ one_longer g.nodes _) (ap (λ (k : Graph). k.memories) e) (ap (λ (k : Graph). k.instances) e) named
+
+pub known_output : (g h : Graph) (names more : Names) (name : List ℕ) (w : ℕ) (id : NodeId) → AreKnown g names → id ≡ next g → h ≡ with_output g name w → more ≡ names ++ ((name, None), target.Node id) ∷ [] → AreKnown h more
+known_output g h names more name w id known is e named = grown g h names more name id known is (ap (λ (k : Graph). length k.nodes) e ∙ one_longer g.nodes _) (ap (λ (k : Graph). k.memories) e) (ap (λ (k : Graph). k.instances) e) named

@@ -2,3 +2,15 @@ pub mod Known
 pub mod HeadSteps
 pub mod Connected
 pub mod Instanced
+pub mod Single
+pub mod TopCalls
+pub mod Frames
+pub mod Matched
+pub mod Sound
+pub mod Bodies
+pub mod Runs
+pub mod Turns
+pub mod Choice
+pub mod NewNames
+pub mod Finished
+pub mod LastLines

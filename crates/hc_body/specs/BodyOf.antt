@@ -1,5 +1,5 @@
 -- What a call of a circuit gives: its body, or its first fault.
-use Rattle.std.specs.Prelude.{◌≡◌, ◌+◌, ◌==◌, ℕ, Bool, not, if◌then◌else◌, List, [], ◌∷◌, filter, length, slice_get, Option, Some, None, option_map, unwrap_or, Result, Ok, Err, ℤ}
+use Rattle.std.specs.Prelude.{◌≡◌, ◌+◌, ◌==◌, ℕ, Bool, true, false, not, if◌then◌else◌, List, [], ◌∷◌, filter, length, slice_get, Option, Some, None, option_map, unwrap_or, Result, Ok, Err, ℤ}
 use Rattle.hc_fault.specs.declared.fault.FaultKind.TheVariants.{NoOutputs, PortCount, Undriven}
 use Rattle.hc_fault.specs.declared.fault.Fault.{Fault}
 use Rattle.hc_fault.specs.declared.fault.Path.{Path}
@@ -7,9 +7,8 @@ use Rattle.hc_lang.specs.declared.tree.Head.{Head}
 use Rattle.hc_lang.specs.declared.tree.CircuitText.{CircuitText}
 use Rattle.hc_lang.specs.declared.tree.Design.{Design}
 use Rattle.hc_signal.specs.declared.signal.NodeId.{NodeId}
-use Rattle.hc_signal.specs.Graph.{Graph}
 use Rattle.hc_signal.specs.Weight.{graph_weight, graph_words}
-use Rattle.hc_signal.specs.Checked.{IsChecked, Breaks, some_output, few_ports, all_driven}
+use Rattle.hc_signal.specs.Checked.{IsChecked, Breaks, Rule, some_output, few_ports, all_driven}
 use Rattle.hc_body.specs.declared.kinds.Call.{Call}
 use Rattle.hc_body.specs.declared.kinds.Body.{Body}
 use Rattle.hc_body.specs.Unrolled.{unrolled}
@@ -27,8 +26,10 @@ IsCall d call = (c : CircuitText) × IsCallOf d call c
 
 -- ---- lines of faults after the body
 
-abbrev pub is_output : Head → Bool
-is_output h = not h.is_input
+-- an input, or else an output
+abbrev pub is_of : Bool → Head → Bool
+is_of true h = h.is_input
+is_of false h = not h.is_input
 
 abbrev pub line_at : List Head → ℕ → Option ℕ
 line_at heads k = option_map (λ (h : Head). h.line) (slice_get heads k)
@@ -39,12 +40,18 @@ either None other = unwrap_or other 0
 
 -- the line of the 129th input where there is one, else that of the 129th output
 abbrev pub line_past : List Head → ℕ
-line_past heads = either (line_at (filter (λ (h : Head). h.is_input) heads) 128) (line_at (filter is_output heads) 128)
+line_past heads = either (line_at (filter (is_of true) heads) 128) (line_at (filter (is_of false) heads) 128)
 
 -- the line that declared a wire or an output
 abbrev pub line_of : ℕ → List (NodeId × ℕ) → ℕ
 line_of n [] = 0
 line_of n (x ∷ declared) = if x.0.0 == n then x.1 else line_of n declared
+
+-- the line of a broken rule
+abbrev pub broken_line : CircuitText → List (NodeId × ℕ) → Rule → ℕ → ℕ
+broken_line c declared some_output n = c.line
+broken_line c declared few_ports n = line_past c.heads
+broken_line c declared all_driven n = line_of n declared
 
 -- ---- the answer
 

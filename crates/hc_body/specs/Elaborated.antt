@@ -1,5 +1,5 @@
 -- The graph of a call: its heads, and then its unrolled body in order; or the first rule that is broken.
-use Rattle.std.specs.Prelude.{ℕ, ◌+◌, nat_le, if◌then◌else◌, List, [], ◌∷◌, ◌++◌, Option, Some, Result, Ok, Err, ℤ}
+use Rattle.std.specs.Prelude.{ℕ, ◌+◌, nat_le, if◌then◌else◌, List, [], ◌∷◌, ◌++◌, Some, Result, Ok, Err, ℤ}
 use Rattle.hc_fault.specs.declared.fault.FaultKind.{FaultKind}
 use Rattle.hc_fault.specs.declared.fault.FaultKind.TheVariants.{CircuitWeight}
 use Rattle.hc_fault.specs.declared.fault.Fault.{Fault}

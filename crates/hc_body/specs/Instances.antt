@@ -1,5 +1,5 @@
 -- The statement `inst`: a circuit, its arguments, its heads, and a connection for each input.
-use Rattle.std.specs.Prelude.{ℕ, ◌+◌, ◌==◌, Bool, false, is_some, if◌then◌else◌, List, [], ◌∷◌, ◌++◌, length, replicate, slice_get, slice_set, position, Option, Some, None, Result, Ok, Err, ℤ}
+use Rattle.std.specs.Prelude.{ℕ, ◌==◌, Bool, false, is_some, if◌then◌else◌, List, [], ◌∷◌, ◌++◌, length, replicate, slice_get, slice_set, position, Option, Some, None, Result, Ok, Err, ℤ}
 use Rattle.std.specs.Str.{bytes_eq}
 use Rattle.hc_fault.specs.declared.fault.FaultKind.{FaultKind}
 use Rattle.hc_fault.specs.declared.fault.FaultKind.TheVariants.{UnknownCircuit, ArgCount, UnknownPort, RepeatedPort, MissingPort, WidthMismatch}
@@ -20,10 +20,9 @@ use Rattle.hc_unfold.specs.Drawing.{Draws, and_then, found}
 use Rattle.hc_unfold.specs.Places.{key, numbers}
 use Rattle.hc_unfold.specs.Outputs.{port_place}
 use Rattle.hc_body.specs.declared.kinds.Call.{Call}
-use Rattle.hc_body.specs.declared.kinds.Child.{Child}
 use Rattle.hc_body.specs.Unrolled.{Text}
 use Rattle.hc_body.specs.PortWidths.{PortWidths, port_widths, inputs_of, ports_of}
-use Rattle.hc_body.specs.Steps.{Elaborating, Steps, Broken, Inside, ◌>>=◌, ◌>>◌, answer, given, demand, rule, draw, is_new, bind, add_child}
+use Rattle.hc_body.specs.Steps.{Steps, Inside, ◌>>=◌, ◌>>◌, answer, given, rule, draw, is_new, bind, add_child}
 use Rattle.hc_body.specs.Statements.{signal_node}
 
 -- the place of a circuit among the circuits of the design

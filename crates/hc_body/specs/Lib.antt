@@ -7,6 +7,9 @@ pub mod Connections
 pub mod Instances
 pub mod Elaborated
 pub mod BodyOf
+pub mod Children
+pub mod Running
+pub mod Opened
 pub mod TopCall
 pub mod InstStops
 pub mod Gives

@@ -1,11 +1,10 @@
 -- A register: its rules, over nodes and numbers.
-use Rattle.std.specs.Prelude.{ℕ, Option, Some, None, option_map, Result, Ok, Err, ℤ}
+use Rattle.std.specs.Prelude.{ℕ, Option, Some, None, option_map, Result, Ok, ℤ}
 use Rattle.hc_fault.specs.declared.fault.FaultKind.{FaultKind}
 use Rattle.hc_fault.specs.declared.fault.FaultKind.TheVariants.{ConstRange}
 use Rattle.hc_bits.specs.BitVector.{BitVector, from_i64}
 use Rattle.hc_signal.specs.declared.signal.NodeId.{NodeId}
 use Rattle.hc_signal.specs.declared.signal.Node.TheVariants.{Reg}
-use Rattle.hc_signal.specs.Graph.{Graph}
 use Rattle.hc_signal.specs.Rules.{reg_rule}
 use Rattle.hc_signal.specs.Builds.{width_at}
 use Rattle.hc_unfold.specs.Drawing.{Draws, ◌>>=◌, ◌>>◌, given, adds, unless, found, and_then, width}

@@ -1,24 +1,21 @@
 -- Heads and plain statements: what each adds to a body under way, with its rules in their order.
-use Rattle.std.specs.Prelude.{ℕ, false, ◌++◌, if◌then◌else◌, List, [], ◌∷◌, length, slice_get, Option, Some, None, option_map, Result, Ok, Err, ℤ, nat_abs}
-use Rattle.hc_fault.specs.declared.fault.FaultKind.{FaultKind}
-use Rattle.hc_fault.specs.declared.fault.FaultKind.TheVariants.{UnknownName, ConstRange}
-use Rattle.hc_bits.specs.BitVector.{BitVector, from_i64}
+use Rattle.std.specs.Prelude.{ℕ, false, ◌++◌, if◌then◌else◌, List, [], ◌∷◌, length, slice_get, Option, Some, None, ℤ, nat_abs}
+use Rattle.hc_fault.specs.declared.fault.FaultKind.TheVariants.{UnknownName}
 use Rattle.hc_lang.specs.declared.tree.Head.{Head}
 use Rattle.hc_num.specs.Value.{Outcome}
 use Rattle.hc_signal.specs.declared.signal.NodeId.{NodeId}
 use Rattle.hc_signal.specs.declared.signal.MemId.{MemId}
 use Rattle.hc_signal.specs.declared.signal.Memory.{Memory}
 use Rattle.hc_signal.specs.declared.signal.NodeRow.{NodeRow}
-use Rattle.hc_signal.specs.declared.signal.WritePort.{WritePort}
 use Rattle.hc_signal.specs.declared.signal.Node.TheVariants as node
 use Rattle.hc_signal.specs.Graph.{Graph}
-use Rattle.hc_signal.specs.Rules.{width_rule, drive_rule, reg_rule, size_rule, write_rule, label_rule}
+use Rattle.hc_signal.specs.Rules.{drive_rule, size_rule, write_rule, label_rule}
 use Rattle.hc_signal.specs.Builds.{with_row, unlabelled, port, width_at, memory_width_at, is_wire, is_driven_at, with_driver, with_write, is_port_node, has_node_label, has_memory_label, has_instance_label, with_node_label, with_memory_label, with_instance_label}
 use Rattle.hc_unfold.specs.Signals.{Place, Signal}
 use Rattle.hc_unfold.specs.Names.{Key, meaning, as_node, as_memory}
 use Rattle.hc_unfold.specs.declared.names.Target.{Target}
 use Rattle.hc_unfold.specs.declared.names.Target.TheVariants as target
-use Rattle.hc_unfold.specs.Drawing.{Draws, adds, next, unless, found, and_then, as_width}
+use Rattle.hc_unfold.specs.Drawing.{Draws, adds, next, unless, and_then, as_width}
 use Rattle.hc_unfold.specs.Places.{key}
 use Rattle.hc_unfold.specs.Nodes.{node_of}
 use Rattle.hc_body.specs.Unrolled.{Text}

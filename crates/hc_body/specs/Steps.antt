@@ -1,12 +1,12 @@
 -- Steps on a body under way: the state after it and an answer, or the first rule that is broken.
-use Rattle.std.specs.Prelude.{ℕ, Bool, true, false, not, is_some, List, [], ◌∷◌, ◌++◌, Option, Some, None, Result, Ok, Err}
+use Rattle.std.specs.Prelude.{ℕ, Bool, true, false, not, is_some, [], ◌∷◌, ◌++◌, Option, Some, None, Result, Ok, Err}
 use Rattle.hc_fault.specs.declared.fault.FaultKind.{FaultKind}
 use Rattle.hc_fault.specs.declared.fault.FaultKind.TheVariants.{RepeatedName}
 use Rattle.hc_fault.specs.declared.fault.Ident.{Ident}
 use Rattle.hc_signal.specs.declared.signal.NodeId.{NodeId}
 use Rattle.hc_signal.specs.Graph.{Graph}
 use Rattle.hc_signal.specs.Tree.{empty}
-use Rattle.hc_unfold.specs.Names.{Names, Key, meaning}
+use Rattle.hc_unfold.specs.Names.{Key, meaning}
 use Rattle.hc_unfold.specs.declared.names.Target.{Target}
 use Rattle.hc_unfold.specs.Drawing.{Draws, unless}
 pub use Rattle.hc_body.specs.declared.state.Elaborating.{Elaborating}

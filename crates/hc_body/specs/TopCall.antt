@@ -1,10 +1,9 @@
 -- The call of the `top` line, or its first fault.
-use Rattle.std.specs.Prelude.{ℕ, ◌==◌, if◌then◌else◌, List, [], ◌∷◌, map, length, slice_get, Option, Some, None, Result, Ok, Err, ℤ}
+use Rattle.std.specs.Prelude.{ℕ, ◌==◌, if◌then◌else◌, List, [], map, length, slice_get, Option, Some, None, Result, Ok, Err, ℤ}
 use Rattle.hc_fault.specs.declared.fault.FaultKind.{FaultKind}
 use Rattle.hc_fault.specs.declared.fault.FaultKind.TheVariants.{UnknownCircuit, ArgCount}
 use Rattle.hc_fault.specs.declared.fault.Fault.{Fault}
 use Rattle.hc_fault.specs.declared.fault.Path.{Path}
-use Rattle.hc_tokens.specs.declared.tree.Num.{Num}
 use Rattle.hc_lang.specs.declared.tree.CircuitText.{CircuitText}
 use Rattle.hc_lang.specs.declared.tree.TopLine.{TopLine}
 use Rattle.hc_lang.specs.declared.tree.Design.{Design}

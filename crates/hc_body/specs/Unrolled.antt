@@ -1,5 +1,5 @@
 -- The unrolled body: its statements with every number put in, in the order in which they run, each with its count.
-use Rattle.std.specs.Prelude.{ℕ, zero, suc, nat_lt, if◌then◌else◌, List, [], ◌∷◌, map, flat_map, Option, option_map, Result, Ok, Err, ℤ, pos, negsuc, ◌+ℤ◌, ◌-ℤ◌}
+use Rattle.std.specs.Prelude.{ℕ, zero, suc, nat_lt, if◌then◌else◌, List, [], ◌∷◌, map, flat_map, Option, option_map, Ok, Err, ℤ, pos, negsuc, ◌+ℤ◌, ◌-ℤ◌}
 use Rattle.std.specs.Ordering.{int_eq}
 use Rattle.hc_fault.specs.declared.fault.FaultKind.{FaultKind}
 use Rattle.hc_fault.specs.declared.fault.FaultKind.TheVariants.{TooManyStatements}
@@ -8,7 +8,7 @@ use Rattle.hc_lines.specs.declared.tree.Sig.{Sig}
 use Rattle.hc_lines.specs.declared.tree.What.TheOpen.{What-F, Stmt-F}
 use Rattle.hc_lines.specs.declared.tree.What.TheFolds.{fold-Stmt}
 use Rattle.hc_lines.specs.declared.tree.Stmt.{Stmt}
-use Rattle.hc_num.specs.Value.{Bindings, Outcome, value}
+use Rattle.hc_num.specs.Value.{Bindings, Outcome}
 use Rattle.hc_unfold.specs.Signals.{Place, Signal, place, signal, number}
 
 abbrev pub Text : Type 0

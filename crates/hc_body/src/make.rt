@@ -1,16 +1,21 @@
-ghost use Rattle.std.specs.Prelude.{◌≡◌, [], length, map};
+ghost use Rattle.std.specs.Prelude.{◌≡◌, [], length, map, IfOk};
 ghost use Rattle.hc_unfold.specs.Places.{numbers};
 ghost use Rattle.hc_unfold.specs.Signals.{number};
-ghost use Rattle.hc_body.specs.Gives.{Answers, Tells};
-ghost use Rattle.hc_body.specs.BodyOf.{IsCall, IsCallOf};
-ghost use Rattle.hc_body.specs.Elaborated.{call_ports, fault_at};
+ghost use Rattle.hc_body.specs.Gives.{Answers, IsAnswer, Tells};
+ghost use Rattle.hc_body.specs.BodyOf.{BodyOf, IsCall, IsCallOf};
+ghost use Rattle.hc_body.specs.Elaborated.{call_elaborated, call_ports, fault_at};
+ghost use Rattle.hc_body.specs.PortWidths.{parameters};
+ghost use Rattle.hc_body.specs.Unrolled.{unrolled};
 ghost use Rattle.hc_body.specs.TopCall as top;
 ghost use Rattle.hc_lang.specs.declared.tree.CircuitText.{CircuitText};
 
+use crate::blocks::{Running, run_block};
 use crate::circuits::circuit_place;
 use crate::faults::refused_at;
+use crate::finish::finish;
 use crate::heads::{HeadStop, port_widths, ports};
-use crate::kinds::Call;
+use crate::kinds::{Body, Call};
+use crate::open::open;
 use hc_fault::{FaultKind, ItemList, Path, Refused};
 use hc_lang::{CircuitText, Design, Num};
 use hc_num::Env;
@@ -97,4 +102,55 @@ pub fn ports_of(alloc: Global, design: &Design, call: &Call, path: &Path) -> Res
 {
     let circuit = circuit_of(design, call);
     ports_at(alloc, circuit, call.args.as_slice(), path)
+}
+
+/// A call whose lines have all run, or the first fault of its heads and its lines.
+fn run_call(
+    alloc: Global,
+    design: &Design,
+    circuit: &CircuitText,
+    args: &[i64],
+    path: &Path,
+) -> Result<Running, Refused>
+    requires { length args.now ≡ length circuit.now.params }
+    ensures done { Answers (λ run. run.body) result (call_elaborated design.now path.now circuit.now args.now) }
+    ensures count { IfOk result (λ run. run.count ≡ (unrolled circuit.now.body (parameters circuit.now args.now)).count) }
+{
+    let mut run = match open(alloc, circuit, args, path) {
+        Ok(run) => run,
+        Err(stop) => return Err(stop),
+    };
+    match run_block(alloc, design, path, &mut run, circuit.body.as_slice()) {
+        Ok(()) => Ok(run),
+        Err(stop) => Err(stop),
+    }
+}
+
+/// The body of a circuit at its arguments.
+#[tactic(auto, using(crate::proofs::Finished::fault_answer))]
+fn body_at(
+    alloc: Global,
+    design: &Design,
+    circuit: &CircuitText,
+    args: &[i64],
+    path: &Path,
+) -> Result<Body, Refused>
+    requires { length args.now ≡ length circuit.now.params }
+    ensures { IsAnswer (λ body. body) (BodyOf design.now circuit.now args.now path.now) result }
+{
+    match run_call(alloc, design, circuit, args, path) {
+        Ok(run) => finish(alloc, design, circuit, args, path, run),
+        Err(stop) => Err(stop),
+    }
+}
+
+/// The body of a call: its heads, then its lines in the order in which they run, then the rules of the whole circuit. The
+/// first fault of these, among F9 to F28 and F37, has the line where it comes, and the path of the call in whose lines
+/// that is.
+pub fn body(alloc: Global, design: &Design, call: &Call, path: &Path) -> Result<Body, Refused>
+    requires { IsCall design.now call.now }
+    ensures { (c : CircuitText) → IsCallOf design.now call.now c → IsAnswer (λ body. body) (BodyOf design.now c call.now.args path.now) result }
+{
+    let circuit = circuit_of(design, call);
+    body_at(alloc, design, circuit, call.args.as_slice(), path)
 }

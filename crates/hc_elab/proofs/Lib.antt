@@ -1,0 +1,16 @@
+pub mod Twins
+pub mod Hiers
+pub mod Making
+pub mod Inverted
+pub mod Injected
+pub mod Weighing
+pub mod Stays
+pub mod Denoting
+pub mod Bodies
+pub mod Light
+pub mod OwnCall
+pub mod Wholes
+pub mod Called
+pub mod Children
+pub mod Single
+pub mod Top

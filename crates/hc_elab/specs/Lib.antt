@@ -1,0 +1,3 @@
+pub mod Elaborates
+pub mod Hierarchies
+pub mod Calls

@@ -1,8 +1,6 @@
-pub mod Room
-pub mod Drawn
-pub mod Known
-pub mod LeafText
-pub mod Found
-pub mod DueLaws
 pub mod Pieces
 pub mod Parts
+pub mod AnyOf
+pub mod Naming
+pub mod Kept
+pub mod DueLaws

@@ -1,25 +1,45 @@
 -- The words of the top call's clauses.
-use Rattle.std.specs.Prelude.{ℕ, ◌≡◌, ◌⊎◌, List, Option, IfSome}
+use Rattle.std.specs.Prelude.{ℕ, ◌≡◌, ◌≤◌, ◌⊎◌, List, Option, IfSome, length}
 use Rattle.std.specs.Io.KnownBytes.{Appends, IsAtEnd}
-use Rattle.hc_outside.specs.Moves.{Holds}
-use Rattle.hc_cli.specs.Due.{Due, IsDue}
+use Rattle.hc_outside.specs.Moves.{AppendsFront, Holds}
+use Rattle.hc_dbstate.specs.History.{History}
+use Rattle.hc_words.specs.declared.job.Job.{Job}
+use Rattle.hc_words.specs.Jobs.{IsJob}
+use Rattle.hc_cli.specs.Due.{Due, IsDue, limit}
+use Rattle.hc_cli.specs.Histories.{IsHistoryOf}
+use Rattle.hc_cli.specs.declared.run.Outcome.{Outcome}
+
+-- the entries and the turns that are handed out
+abbrev pub history_of : Outcome → History
+history_of o = record { entries = o.entries.items; turns = o.turns.items }
 
 -- a status whose bytes were all written
 abbrev pub IsWritten : ℕ → Type 0
-IsWritten status = (status ≡ 0) ⊎ (status ≡ 2) ⊎ (status ≡ 6)
+IsWritten status = (status ≡ 0) ⊎ (status ≡ 1) ⊎ (status ≡ 2) ⊎ (status ≡ 6)
 
 -- This holds of what is due for the words and the text that the source had left, or for some text where it tells none.
 abbrev pub ForDue : List (List ℕ) → Option (List ℕ) → (Due → Type 0) → Type 0
 ForDue words left P = (text : List ℕ) × (d : Due) × Holds left text × IsDue words text d × P d
 
--- the status is the one that is due, and the sink took exactly what is due
-abbrev pub Written : ℕ → Option (List ℕ) → Option (List ℕ) → Due → Type 0
-Written status old new d = (d.status ≡ status) × Appends old new d.out
+-- The status is the one that is due, the sink took exactly what is due, and the history is that of the calls that are due.
+pub record IsDone (o : Outcome) (old new : Option (List ℕ)) (d : Due) : Type 0 where
+  pub status : o.status ≡ d.status
+  pub out : Appends old new d.out
+  pub history : IsHistoryOf (history_of o) d.calls
+
+-- The sink took a front of what is due, and the history is that of the calls that are due.
+pub record IsCut (o : Outcome) (old new : Option (List ℕ)) (d : Due) : Type 0 where
+  pub out : AppendsFront old new d.out
+  pub history : IsHistoryOf (history_of o) d.calls
 
 -- the status is that of want of memory or the one that is due
 abbrev pub IsDueOrNoMemory : List (List ℕ) → Option (List ℕ) → ℕ → Type 0
 IsDueOrNoMemory words left status = (status ≡ 5) ⊎ ForDue words left (λ d. status ≡ d.status)
 
--- where a module is due for what the source had left, it has nothing left now
+-- what the source had left was read to its end, unless it is longer than the limit
+abbrev pub EndsInput : Option (List ℕ) → Option (List ℕ) → Type 0
+EndsInput old new = IfSome old (λ text. length text ≤ limit → IsAtEnd new)
+
+-- and so it is for words that have a job
 abbrev pub EndsRead : List (List ℕ) → Option (List ℕ) → Option (List ℕ) → Type 0
-EndsRead words old new = IfSome old (λ text. (d : Due) → IsDue words text d → d.status ≡ 0 → IsAtEnd new)
+EndsRead words old new = (job : Job) → IsJob words job → EndsInput old new

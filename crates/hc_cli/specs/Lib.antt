@@ -1,7 +1,7 @@
-pub mod SmallGraph
-pub mod Gives
+pub mod FaultLine
+pub mod Sent
+pub mod OpUse
+pub mod Histories
 pub mod Due
 pub mod Clauses
 pub mod Prepared
-pub mod FaultLine
-pub mod Sent

@@ -1,12 +1,13 @@
-//! The top call: words and an input in, a status and the bytes that are due out.
+//! The top call: words and an input in, a status, the bytes that are due and their history out.
 #![tactic(auto)]
 
-mod circuit;
 mod fault_line;
-mod module;
+mod op_use;
+mod prepared;
 mod run;
 #[cfg(test)]
 mod tests;
+mod verilog;
 
 pub use fault_line::write_fault;
 pub use run::{Outcome, one_due, run_one};

@@ -1,20 +1,10 @@
-use Rattle.std.proofs.Common.{sym, ap, ◌∙◌, subst, arith}
-use Rattle.std.specs.Prelude.{Err}
+use Rattle.std.proofs.Common.{refl, map, string_bytes, Global}
 use Rattle.std.proofs.lemmas.Result.{IfOk-weaker}
-use Rattle.hc_outside.specs.Moves.{Holds}
-use Rattle.hc_cli.proofs.DueLaws.{refused_due, read_due, long_due}
+use Rattle.hc_cli.proofs.DueLaws.{asked_left, refused_left}
 use Rattle.hc_cli.proofs.run.prepare.Goals as goal
 
-pub returns-then-not-is_command-clause-due : goal.returns-then-not-is_command-clause-due
-returns-then-not-is_command-clause-due g c =
-    IfOk-weaker c.refused.result _ _ (λ p due. refused_due _ _ _ (sym c.is_command.ensures ∙ grind arith) due) c.refused.ensures.due
-
 pub returns-in-Ok-clause-due : goal.returns-in-Ok-clause-due
-returns-in-Ok-clause-due g c =
-    IfOk-weaker c.prepare_text.result _ _
-    (λ p due. read_due _ _ _ c.deref.result.now (sym c.is_command.ensures ∙ grind arith) (subst (Holds _) (sym c.deref.ensures.value) c.in-Ok.ensures.all) due)
-    c.prepare_text.ensures.due
+returns-in-Ok-clause-due g c = IfOk-weaker c.prepare_input.result _ _ (λ p s. asked_left (map (string_bytes {Z = Global}) c.args.words.now) _ c.in-Ok.field-0 p c.in-Ok.ensures.ok s) c.prepare_input.ensures.due
 
-pub returns-in-Err-TooLong-clause-due : goal.returns-in-Err-TooLong-clause-due
-returns-in-Err-TooLong-clause-due g c =
-    long_due _ _ _ (sym c.is_command.ensures ∙ grind arith) (c.in-Err-TooLong.ensures.long (ap (λ e. Err e) c.in-Err-TooLong.field-0-is)) c.unserved.ensures
+pub returns-in-Err-Words-clause-due : goal.returns-in-Err-Words-clause-due
+returns-in-Err-Words-clause-due g c = refused_left (map (string_bytes {Z = Global}) c.args.words.now) _ (c.in-Err-Words.ensures.err c.in-Err-Words.field-0-is)

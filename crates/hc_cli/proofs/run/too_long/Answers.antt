@@ -1,0 +1,5 @@
+use Rattle.hc_cli.proofs.DueLaws.{long_text}
+use Rattle.hc_cli.proofs.run.too_long.Goals as goal
+
+pub returns : goal.returns
+returns c = long_text

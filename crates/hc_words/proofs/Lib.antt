@@ -1,0 +1,5 @@
+pub mod FormLaw
+pub mod Law
+pub mod Numbers
+pub mod Steps
+pub mod OneJob

@@ -1,0 +1,5 @@
+pub mod Items
+pub mod Jobs
+pub mod Form
+pub mod Rules
+pub mod Reads

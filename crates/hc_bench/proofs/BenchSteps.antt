@@ -13,7 +13,7 @@ use Rattle.hc_lines.specs.declared.tree.BenchValue.TheVariants.{Plain, Sized}
 use Rattle.hc_lines.specs.declared.tree.BenchWhat.{BenchWhat}
 use Rattle.hc_lines.specs.declared.tree.BenchWhat.TheVariants as line
 use Rattle.hc_lang.specs.declared.tree.BenchLine.{BenchLine}
-use Rattle.hc_bits.specs.BitVector.{BitVector, IsWidth, IsVector, IsBitVector, from_i64}
+use Rattle.hc_bits.specs.BitVector.{BitVector, IsWidth, IsVector, from_i64}
 use Rattle.hc_signal.specs.Member.{Has}
 use Rattle.hc_signal.proofs.Places.{has_get_or, has_from_place}
 use Rattle.hc_signal.specs.declared.signal.Port.{Port}
@@ -101,6 +101,7 @@ set_fits inputs count value (Some place) step widths few e = by_port (slice_get 
     by_value : (p : Port) → slice_get inputs place ≡ Some p → (r : Option BitVector) → value_in p.width value ≡ r → step_to place r ≡ Ok step → Fits inputs count step
     by_value p at None is e = cc
     by_value p at (Some x) is e = fits_made inputs count (Set place x) step ((p, at, value_fits p.width value x (widths p (has_from_place inputs place p at)) is), omega (arith, few)) e
+
     by_port : (o : Option Port) → slice_get inputs place ≡ o → set_port place value o ≡ Ok step → Fits inputs count step
     by_port None at e = cc
     by_port (Some p) at e = by_value p at (value_in p.width value) refl e
@@ -133,13 +134,17 @@ steps_fit inputs count (l ∷ ls) steps widths few e = by (λ s more. steps_fit 
   where
     Keep : ℕ → List Step → Type 0
     Keep n kept = All inputs kept × (n + sum_by cycles_of kept ≤ 1000000)
+
     Rest : Type 0
     Rest = (s : Step) (more : List Step) → count + cycles_of s ≤ 1000000 → steps_from inputs (count + cycles_of s) ls ≡ Ok more → Keep (count + cycles_of s) more
+
     joined : (s : Step) (more : List Step) → Fits inputs count s → Keep (count + cycles_of s) more → Keep count (s ∷ more)
     joined s more fits kept = (one_step inputs s more fits.0 kept.0, let sum = sum_by-cons cycles_of s more in omega (arith, sum, kept.1))
+
     by_rest : (s : Step) → Fits inputs count s → ((more : List Step) → count + cycles_of s ≤ 1000000 → steps_from inputs (count + cycles_of s) ls ≡ Ok more → Keep (count + cycles_of s) more) → (r : Result (List Step) Fault) → steps_from inputs (count + cycles_of s) ls ≡ r → before s r ≡ Ok steps → Keep count steps
     by_rest s fits rest (Err f) is e = cc
     by_rest s fits rest (Ok more) is e = let same : s ∷ more ≡ steps = cc in subst (Keep count) same (joined s more fits (rest more fits.1 is))
+
     by : Rest → (r : Result Step FaultKind) → step_of inputs count l.what ≡ r → then_steps (at_line l.line r) (λ s. steps_from inputs (count + cycles_of s) ls) ≡ Ok steps → Keep count steps
     by rest (Err kind) is e = cc
     by rest (Ok s) is e = by_rest s (step_fits inputs count l.what s widths few is) (rest s) (steps_from inputs (count + cycles_of s) ls) refl e

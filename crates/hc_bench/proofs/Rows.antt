@@ -22,10 +22,10 @@ front_digits n v digits rest front put cut =
 -- the pieces of an output and its value
 pub value_pieces : (name bytes front : List ℕ) (w v : ℕ) → bytes ≡ name → front ≡ hex_of w v → 32 ∷ (bytes ++ 61 ∷ (front ++ [])) ≡ 32 ∷ (name ++ 61 ∷ [] ++ hex_of w v)
 value_pieces name bytes front w v same digits = ap (λ (l : List ℕ). 32 ∷ l) (
-  ap (λ (l : List ℕ). l ++ 61 ∷ (front ++ [])) same
-  ∙ ap (λ (l : List ℕ). name ++ 61 ∷ l) (append-nil front ∙ digits)
-  ∙ sym (append_assoc name (61 ∷ []) (hex_of w v))
-)
+    ap (λ (l : List ℕ). l ++ 61 ∷ (front ++ [])) same
+    ∙ ap (λ (l : List ℕ). name ++ 61 ∷ l) (append-nil front ∙ digits)
+    ∙ sym (append_assoc name (61 ∷ []) (hex_of w v))
+    )
 
 -- one output more
 pub values_more : (outputs : List Port) (values : List ℕ) (i : ℕ) (p : Port) (v : ℕ) → i < length outputs → length values ≡ length outputs → p ≡ get_or outputs i p → v ≡ get_or values i 0 → values_text (drop i outputs) (drop i values) ≡ value_text (p, v) ++ values_text (drop (i + 1) outputs) (drop (i + 1) values)

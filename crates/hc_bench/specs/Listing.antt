@@ -1,5 +1,5 @@
 -- The listing of a run: one line for each cycle.
-use Rattle.std.specs.Prelude.{ℕ, List, [], ◌∷◌, ◌++◌, map, flat_map, codes, decimal}
+use Rattle.std.specs.Prelude.{ℕ, List, ◌++◌, map, flat_map, codes, decimal}
 use Rattle.std.specs.List.{zip}
 use Rattle.hc_bits.specs.Digits.{hex_of, lines_text}
 use Rattle.hc_signal.specs.declared.signal.Port.{Port}

@@ -1,5 +1,5 @@
 -- What a simulator did and a sink took, as the steps of a bench were played.
-use Rattle.std.specs.Prelude.{◌≡◌, ℕ, List, [], ◌∷◌, ◌++◌, Option}
+use Rattle.std.specs.Prelude.{◌≡◌, ℕ, List, ◌++◌, Option}
 use Rattle.std.specs.Io.KnownBytes.{Appends}
 use Rattle.hc_outside.specs.Moves.{AppendsFront}
 use Rattle.hc_signal.specs.declared.signal.Port.{Port}

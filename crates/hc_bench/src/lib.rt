@@ -9,6 +9,8 @@ pub mod make;
 mod run;
 mod sends;
 mod sim;
+#[cfg(test)]
+mod tests;
 
 pub use run::play;
 pub use sim::Sim;

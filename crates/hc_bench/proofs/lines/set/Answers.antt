@@ -1,6 +1,4 @@
-use Rattle.std.proofs.Common.{◌≡◌, ◌∙◌, sym}
-use Rattle.std.specs.Prelude.{Option, Some, None}
-use Rattle.hc_bits.specs.BitVector.{BitVector}
+use Rattle.std.specs.Prelude.{Some, None}
 use Rattle.hc_bench.proofs.BenchSteps.{width_of_port, set_is}
 use Rattle.hc_bench.proofs.lines.set.Goals as goal
 

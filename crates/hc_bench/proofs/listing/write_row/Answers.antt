@@ -1,7 +1,6 @@
-use Rattle.std.proofs.Common.{ℕ, List, [], ◌∷◌, ◌++◌}
-use Rattle.std.specs.Prelude.{codes, decimal, Ok, Err}
+use Rattle.std.proofs.Common.{[], ◌∷◌, ◌++◌}
+use Rattle.std.specs.Prelude.{codes, decimal}
 use Rattle.hc_bench.specs.Listing.{values_text}
-use Rattle.hc_bench.specs.Sent.{IsSent}
 use Rattle.hc_bench.proofs.Pieces.{sent_then, sent_stop, stop_first, stop_second, stop_third}
 use Rattle.hc_bench.proofs.listing.write_row.Goals as goal
 

@@ -1,17 +1,16 @@
 -- The entries that the top of a hierarchy uses are entries of its calls.
-use Rattle.std.proofs.Common.{◌≡◌, ℕ, suc, ◌+◌, ◌<◌, ◌≤◌, ◌==◌, Bool, true, false, cond, ◌⊎◌, inl, inr, List, [], ◌∷◌, ◌++◌, map, length, refl, sym, ap, subst, ◌∙◌, arith}
-use Rattle.std.specs.Prelude.{Option, Some, None, slice_get, count_by, IsSome}
-use Rattle.std.proofs.lemmas.Bool.Decides.{Decides-eqb, eqb_tells}
+use Rattle.std.proofs.Common.{◌≡◌, ℕ, ◌+◌, ◌<◌, ◌≤◌, ◌==◌, Bool, true, false, cond, List, [], ◌∷◌, ◌++◌, map, length, refl, sym, ap, subst, ◌∙◌, arith}
+use Rattle.std.specs.Prelude.{Option, Some, slice_get, count_by, IsSome}
+use Rattle.std.proofs.lemmas.Bool.Decides.{Decides-eqb}
 use Rattle.std.proofs.lemmas.List.Sums.{sum_by-cons}
 use Rattle.std.proofs.lemmas.Option.{slice_get_within}
 use Rattle.hc_signal.specs.Member.{Has, first, later}
 use Rattle.hc_canon.specs.declared.form.EntryId.{EntryId}
 use Rattle.hc_canon.specs.FormView.{FormView}
 use Rattle.hc_dbstate.specs.declared.hier.Hier.{Hier}
-use Rattle.hc_dbstate.specs.Elaboration.{CallRow, CallView, IsCallOver, IsElaboration, hier_view, times, walk}
+use Rattle.hc_dbstate.specs.Elaboration.{CallRow, CallView, IsElaboration, hier_view, times, walk}
 use Rattle.hc_names.specs.NameRows.{name_of_entry}
 use Rattle.hc_names.specs.Naming.{NameRow}
-use Rattle.hc_verilog.specs.ModuleText.{AreNamed}
 use Rattle.hc_modules.specs.Pieces.{AreThere}
 use Rattle.hc_modules.specs.Uses.{Uses, itself, kid}
 

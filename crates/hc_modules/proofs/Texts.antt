@@ -1,15 +1,15 @@
 -- The modules of a hierarchy, row by row.
-use Rattle.std.proofs.Common.{◌≡◌, ℕ, suc, ◌+◌, ◌<◌, ◌≤◌, Bool, true, false, ◌⊎◌, inl, inr, List, [], ◌∷◌, ◌++◌, length, drop, get_or, append_assoc, append-nil, refl, sym, ap, subst, ◌∙◌, arith}
-use Rattle.std.specs.Prelude.{Option, Some, None, slice_get}
+use Rattle.std.proofs.Common.{◌≡◌, ℕ, ◌+◌, ◌≤◌, Bool, true, false, inl, inr, List, [], ◌∷◌, ◌++◌, length, drop, get_or, append_assoc, append-nil, refl, sym, ap, subst, ◌∙◌}
+use Rattle.std.specs.Prelude.{Option, Some, slice_get}
 use Rattle.std.specs.List.{join_with_byte}
 use Rattle.std.proofs.Math.ListN.{drop_of_length-le}
-use Rattle.std.proofs.lemmas.Option.{slice_get_within, slice_get-get_or, slice_get_cases}
+use Rattle.std.proofs.lemmas.Option.{slice_get_within, slice_get-get_or}
 use Rattle.std.proofs.lemmas.List.{drop_more}
 use Rattle.hc_canon.specs.declared.form.EntryId.{EntryId}
 use Rattle.hc_canon.specs.FormView.{FormView}
 use Rattle.hc_names.specs.Naming.{NameRow}
 use Rattle.hc_modules.specs.Uses.{Uses}
-use Rattle.hc_modules.specs.HierarchyText.{IsEntryText, AreTexts, IsHierarchyText}
+use Rattle.hc_modules.specs.HierarchyText.{AreTexts, IsHierarchyText}
 use Rattle.hc_modules.specs.Pieces.{is_empty, parted, Appends, IsPrinted}
 
 pub prints_none : (entries : List FormView) (top : EntryId) (rows : List NameRow) → IsPrinted entries top rows 0 true []

@@ -1,5 +1,5 @@
 -- Copies of a node side by side.
-use Rattle.std.proofs.Common.{◌≡◌, ℕ, ◌≤◌, ◌*◌, ◌&&◌, Bool, true, false, nat_le, List, length, replicate, refl, sym, subst, ◌∙◌, arith}
+use Rattle.std.proofs.Common.{◌≡◌, ℕ, ◌≤◌, ◌*◌, ◌&&◌, Bool, true, nat_le, List, replicate, sym, subst, arith}
 use Rattle.std.specs.Prelude.{Result}
 use Rattle.hc_fault.specs.declared.fault.FaultKind.TheVariants.{Width}
 use Rattle.hc_signal.specs.declared.stop.BuildStop.{BuildStop}

@@ -1,13 +1,13 @@
 -- Names that mean something of a graph, while the graph grows.
-use Rattle.std.proofs.Common.{◌≡◌, ℕ, zero, suc, ◌<◌, ◌≤◌, Bool, true, false, cond, List, [], ◌∷◌, length, refl, sym, ap, subst, arith}
-use Rattle.std.specs.Prelude.{Option, Some, None}
+use Rattle.std.proofs.Common.{◌≡◌, ◌<◌, Bool, true, false, cond, List, [], ◌∷◌, length, sym, subst, arith}
+use Rattle.std.specs.Prelude.{Some}
 use Rattle.hc_signal.specs.declared.signal.NodeId.{NodeId}
 use Rattle.hc_signal.specs.declared.signal.MemId.{MemId}
 use Rattle.hc_signal.specs.declared.signal.InstId.{InstId}
 use Rattle.hc_signal.specs.declared.signal.Memory.{Memory}
 use Rattle.hc_signal.specs.declared.signal.Instance.{Instance}
 use Rattle.hc_signal.specs.Graph.{Graph}
-use Rattle.hc_signal.specs.Member.{Has, first, later}
+use Rattle.hc_signal.specs.Member.{first, later}
 use Rattle.hc_signal.specs.Builds.{IsNode, IsMemory, IsInstance}
 use Rattle.hc_unfold.specs.Names.{Names, Key, Target, AreKnown, IsThere, meaning, same_key}
 use Rattle.hc_unfold.specs.declared.names.Target.TheVariants as target

@@ -1,6 +1,6 @@
 -- The table of names.
-use Rattle.std.proofs.Common.{◌≡◌, Bool, true, false, cond, List, [], ◌∷◌, ◌++◌, refl, ap}
-use Rattle.std.specs.Prelude.{Option, Some, None}
+use Rattle.std.proofs.Common.{◌≡◌, Bool, true, false, cond, [], ◌∷◌, ◌++◌, refl, ap}
+use Rattle.std.specs.Prelude.{Some, None}
 use Rattle.indexmap.specs.IndexMap.{insert_entry}
 use Rattle.hc_unfold.specs.Names.{Names, Key, Target, meaning, same_key}
 

@@ -1,4 +1,4 @@
-use Rattle.std.proofs.Common.{refl, sym, ap, subst, ◌∙◌}
+use Rattle.std.proofs.Common.{refl, sym, ap, ◌∙◌}
 use Rattle.hc_names.specs.NameRows.{row_of}
 use Rattle.hc_modules.proofs.Texts.{not_both, prints_row, passes_row}
 use Rattle.hc_modules.proofs.hierarchy.push_row.Goals as goal

@@ -1,6 +1,5 @@
-use Rattle.std.proofs.Common.{◌<◌, length, sym, ap, subst}
+use Rattle.std.proofs.Common.{◌<◌, length, ap, subst}
 use Rattle.hc_canon.specs.declared.form.EntryId.{EntryId}
-use Rattle.hc_dbstate.specs.declared.hier.Hier.{Hier}
 use Rattle.hc_dbstate.specs.declared.hier.Hier.TheFolds.{fold_out-Hier}
 use Rattle.hc_dbstate.specs.Elaboration.{HierView, hier_level}
 use Rattle.hc_modules.specs.Pieces.{AreThere}

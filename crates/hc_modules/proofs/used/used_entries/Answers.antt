@@ -1,6 +1,5 @@
 use Rattle.std.proofs.Common.{ℕ, ◌-◌, false, List, replicate, refl, sym, ap, subst, ◌∙◌, arith}
 use Rattle.std.specs.Prelude.{Bool}
-use Rattle.hc_canon.specs.FormView.{FormView}
 use Rattle.hc_modules.specs.Uses.{IsMarked, with_mark, with_marks}
 use Rattle.hc_modules.proofs.Marks.{AreUsesAbove, starts, takes, ends}
 use Rattle.hc_modules.proofs.used.used_entries.Goals as goal

@@ -1,4 +1,3 @@
-use Rattle.std.proofs.Common.{◌≡◌, ◌+◌, length}
 use Rattle.hc_modules.proofs.Marks.{AreUsesAbove}
 use Rattle.hc_modules.proofs.used.used_entries.Given as goal
 

@@ -1,4 +1,4 @@
-use Rattle.std.proofs.Common.{◌≡◌, ◌≤◌, ◌*◌, ◌&&◌, nat_le, true, rules}
+use Rattle.std.proofs.Common.{◌≡◌, ◌*◌, ◌&&◌, nat_le, true, rules}
 use Rattle.hc_signal.specs.Builds.{width_at}
 use Rattle.hc_unfold.proofs.Lists.{same_nodes}
 use Rattle.hc_unfold.proofs.Copies.{fit_few, copies_drawn}

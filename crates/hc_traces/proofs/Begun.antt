@@ -1,19 +1,18 @@
 -- Runs of all steps, and of a beginning of them.
-use Rattle.std.proofs.Common.{◌≡◌, ℕ, zero, suc, ◌<◌, ◌≤◌, List, [], ◌∷◌, ◌++◌, length, refl, sym, subst, ◌∙◌, ap, ap₂, append_assoc, arith}
+use Rattle.std.proofs.Common.{◌≡◌, ℕ, zero, suc, ◌<◌, List, [], ◌∷◌, ◌++◌, length, refl, sym, subst, ◌∙◌, ap, ap₂, append_assoc, arith}
 use Rattle.std.specs.Prelude.{Option, slice_get, slice_set, Some}
 use Rattle.std.proofs.lemmas.Option.{slice_get_within}
 use Rattle.std.proofs.Math.ListN.{length-set}
 use Rattle.hc_outside.specs.Moves.{AppendsFront}
-use Rattle.hc_bits.specs.BitVector.{BitVector}
 use Rattle.hc_signal.specs.declared.signal.Port.{Port}
-use Rattle.hc_signal.specs.Tree.{Tree, graph, IsWhole}
+use Rattle.hc_signal.specs.Tree.{Tree, IsWhole}
 use Rattle.hc_signal.specs.Occurrences.{Occurrence, HasCombLoop}
 use Rattle.hc_bench.specs.declared.kinds.Step.{Step}
 use Rattle.hc_bench.specs.declared.kinds.Step.TheVariants.{Set, Cycle, Reset}
 use Rattle.hc_bench.specs.Listing.{CycleRow, listing}
 use Rattle.hc_bench.specs.Playing.{IsPartListed}
 use Rattle.hc_bench.specs.Simulation.{State, IsStateOf, IsSettled, clock_edge, outputs_of, reset}
-use Rattle.hc_bench.specs.Steps.{IsStepFor, AreStepsFor}
+use Rattle.hc_bench.specs.Steps.{IsStepFor}
 use Rattle.hc_bench.specs.Trace.{IsCycle, Trace, stop, set, start, past, cycle, Begins, none, part, more, Simulation, IsSimulation}
 use Rattle.hc_bench.proofs.Plays.{listing_append}
 use Rattle.hc_traces.proofs.Settling.{some_settled}

@@ -31,7 +31,7 @@ has_flat_map f (z ∷ xs) x y (later k) h = has_right (f z) (has_flat_map f xs x
 abbrev pub IsAt : Tree → List ℕ → ℕ → Type 0
 IsAt t p n = IsReachedPath t p × Reached (graph_at t p) (node n)
 
--- Each reached place of a whole tree has a row.
+-- Each reached vertex of a whole tree has a row.
 reached_empty : {p : Vertex} → Reached empty p → ⊥
 reached_empty (output p c) = elim c [ ]
 reached_empty (further p q r c) = reached_empty r
@@ -48,14 +48,14 @@ pub whole_at : (t : Tree) → IsWhole t → (p : List ℕ) → IsReachedPath t p
 whole_at t w [] r = w
 whole_at t w (i ∷ p) r = whole_kid (tree_at t p) (whole_at t w p r.0) i r.1
 
--- All spots of a tree, in a list.
+-- All occurrences of a tree, in a list.
 pub under : ℕ → Occurrence → Occurrence
 under i s = record { path = s.path ++ i ∷ []; node = s.node }
 
-abbrev pub spots : Tree → List Occurrence
-spots none = []
-spots (tree g kids) =
-    map (λ n. record { path = []; node = n }) (count_from 0 (length g.nodes)) ++ flat_map (λ i. map (under i) (spots (kids i))) (count_from 0 (length g.instances))
+abbrev pub occurrences : Tree → List Occurrence
+occurrences none = []
+occurrences (tree g kids) =
+    map (λ n. record { path = []; node = n }) (count_from 0 (length g.nodes)) ++ flat_map (λ i. map (under i) (occurrences (kids i))) (count_from 0 (length g.instances))
 
 none_at : (p : List ℕ) → tree_at none p ≡ none
 none_at [] = refl
@@ -69,30 +69,30 @@ reached_outer : (t : Tree) (j : ℕ) (p : List ℕ) → IsReachedPath t (j ∷ p
 reached_outer t j [] r = r.1
 reached_outer t j (k ∷ p) r = reached_outer t k p r.0
 
-has_spot : (t : Tree) → IsWhole t → (p : List ℕ) (n : ℕ) → IsReachedPath t p → n < length (graph_at t p).nodes → Has (spots t) (record { path = p; node = n })
+has_occurrence : (t : Tree) → IsWhole t → (p : List ℕ) (n : ℕ) → IsReachedPath t p → n < length (graph_at t p).nodes → Has (occurrences t) (record { path = p; node = n })
 unfolding under
-has_spot none w p n r l = let h : n < length empty.nodes = subst (λ s. n < length (graph s).nodes) (none_at p) l in absurd (omega (arith, h))
-has_spot (tree g kids) w [] n r l =
+has_occurrence none w p n r l = let h : n < length empty.nodes = subst (λ s. n < length (graph s).nodes) (none_at p) l in absurd (omega (arith, h))
+has_occurrence (tree g kids) w [] n r l =
     let z : 0 ≤ n = omega arith in let h : n < 0 + length g.nodes = omega (arith, l) in
     has_left _ (has_map (λ k. record { path = []; node = k }) (count_has (length g.nodes) 0 n z h))
-has_spot (tree g kids) w (j ∷ p) n r l =
+has_occurrence (tree g kids) w (j ∷ p) n r l =
     let i : Reached g (inst (outer j p)) = reached_outer (tree g kids) j p r in
     let x : HasRow g (inst (outer j p)) = reached_row g w.0 i in
     let b : outer j p < length g.instances = slice_get_within g.instances (outer j p) x.0 x.1 in
     let z : 0 ≤ outer j p = omega arith in let h : outer j p < 0 + length g.instances = omega (arith, b) in
-    let k : Has (spots (kids (outer j p))) (record { path = inner j p; node = n }) =
-    has_spot (kids (outer j p)) (w.1 (outer j p) x.0 x.1).1 (inner j p) n (reached_in (tree g kids) j p r) (subst (λ s. n < length (graph s).nodes) (tree_in (tree g kids) j p) l) in
+    let k : Has (occurrences (kids (outer j p))) (record { path = inner j p; node = n }) =
+    has_occurrence (kids (outer j p)) (w.1 (outer j p) x.0 x.1).1 (inner j p) n (reached_in (tree g kids) j p r) (subst (λ s. n < length (graph s).nodes) (tree_in (tree g kids) j p) l) in
     has_right (map (λ n. record { path = []; node = n }) (count_from 0 (length g.nodes)))
-    (has_flat_map (λ i. map (under i) (spots (kids i))) (count_from 0 (length g.instances)) (outer j p) (record { path = j ∷ p; node = n })
+    (has_flat_map (λ i. map (under i) (occurrences (kids i))) (count_from 0 (length g.instances)) (outer j p) (record { path = j ∷ p; node = n })
     (count_has (length g.instances) 0 (outer j p) z h)
-    (subst (λ q. Has (map (under (outer j p)) (spots (kids (outer j p)))) (record { path = q; node = n })) (path_whole j p) (has_map (under (outer j p)) k)))
+    (subst (λ q. Has (map (under (outer j p)) (occurrences (kids (outer j p)))) (record { path = q; node = n })) (path_whole j p) (has_map (under (outer j p)) k)))
 
-spot_listed : (t : Tree) → IsWhole t → (p : List ℕ) (n : ℕ) → IsAt t p n → Has (spots t) (record { path = p; node = n })
-spot_listed t w p n r =
+occurrence_listed : (t : Tree) → IsWhole t → (p : List ℕ) (n : ℕ) → IsAt t p n → Has (occurrences t) (record { path = p; node = n })
+occurrence_listed t w p n r =
     let x : HasRow (graph_at t p) (node n) = row_in (tree_at t p) (whole_at t w p r.0) r.1 in
-    has_spot t w p n r.0 (slice_get_within (graph_at t p).nodes n x.0 x.1)
+    has_occurrence t w p n r.0 (slice_get_within (graph_at t p).nodes n x.0 x.1)
 
--- The spots on a walk so far, the latest first.
+-- The occurrences on a walk so far, the latest first.
 pub data Chain (t : Tree) : List Occurrence → List ℕ → ℕ → Type 0 where
   start : {p : List ℕ} {n : ℕ} → Chain t [] p n
   link : {rs : List Occurrence} {p q : List ℕ} {n m : ℕ} → Chain t rs p n → IsAt t p n → CombStep t p n q m → Chain t (record { path = p; node = n } ∷ rs) q m
@@ -113,30 +113,30 @@ module _ (t : Tree) (whole : IsWhole t) (free : ¬ HasCombLoop t) where
   chain_different start = tt
   chain_different (link {p = p} {n = n} c r x) = (not_in p n c, chain_different c)
 
-  chain_listed : {rs : List Occurrence} {q : List ℕ} {m : ℕ} → Chain t rs q m → (s : Occurrence) → Has rs s → Has (spots t) s
-  chain_listed c s h = let u : _ = chain_returns t s c h in spot_listed t whole s.path s.node u.0
+  chain_listed : {rs : List Occurrence} {q : List ℕ} {m : ℕ} → Chain t rs q m → (s : Occurrence) → Has rs s → Has (occurrences t) s
+  chain_listed c s h = let u : _ = chain_returns t s c h in occurrence_listed t whole s.path s.node u.0
 
-  with_last : {rs : List Occurrence} {q : List ℕ} {m : ℕ} → Chain t rs q m → IsAt t q m → (s : Occurrence) → Has (record { path = q; node = m } ∷ rs) s → Has (spots t) s
-  with_last {q = q} {m = m} c r _ first = spot_listed t whole q m r
+  with_last : {rs : List Occurrence} {q : List ℕ} {m : ℕ} → Chain t rs q m → IsAt t q m → (s : Occurrence) → Has (record { path = q; node = m } ∷ rs) s → Has (occurrences t) s
+  with_last {q = q} {m = m} c r _ first = occurrence_listed t whole q m r
   with_last c r s (later h) = chain_listed c s h
 
   -- f more steps are more than any walk from here can have
   abbrev pub Deep : ℕ → List ℕ → ℕ → Type 0
-  Deep f p n = (rs : List Occurrence) × Chain t rs p n × IsAt t p n × (length (spots t) ≤ f + length rs)
+  Deep f p n = (rs : List Occurrence) × Chain t rs p n × IsAt t p n × (length (occurrences t) ≤ f + length rs)
 
   pub deep_none : (p : List ℕ) (n : ℕ) → Deep 0 p n → ⊥
   deep_none p n d =
-      let l : suc (length d.0) ≤ length (spots t) = no_more (record { path = p; node = n } ∷ d.0) (spots t) (not_in p n d.1, chain_different d.1) (with_last d.1 d.2) in
-      let b : length (spots t) ≤ 0 + length d.0 = d.3 in omega (arith, l, b)
+      let l : suc (length d.0) ≤ length (occurrences t) = no_more (record { path = p; node = n } ∷ d.0) (occurrences t) (not_in p n d.1, chain_different d.1) (with_last d.1 d.2) in
+      let b : length (occurrences t) ≤ 0 + length d.0 = d.3 in omega (arith, l, b)
 
   pub deep_next : (f : ℕ) (p : List ℕ) (n : ℕ) (q : List ℕ) (m : ℕ) → Deep (suc f) p n → CombStep t p n q m → Deep f q m
   deep_next f p n q m d x =
-      let b : length (spots t) ≤ suc f + length d.0 = d.3 in
-      let c : length (spots t) ≤ f + suc (length d.0) = omega (arith, b) in
+      let b : length (occurrences t) ≤ suc f + length d.0 = d.3 in
+      let c : length (occurrences t) ≤ f + suc (length d.0) = omega (arith, b) in
       (record { path = p; node = n } ∷ d.0, link d.1 d.2 x, step_reached t x d.2, c)
 
-  pub deep_start : (p : List ℕ) (n : ℕ) → IsAt t p n → Deep (length (spots t)) p n
-  deep_start p n r = let b : length (spots t) ≤ length (spots t) + 0 = omega arith in ([], start, r, b)
+  pub deep_start : (p : List ℕ) (n : ℕ) → IsAt t p n → Deep (length (occurrences t)) p n
+  deep_start p n r = let b : length (occurrences t) ≤ length (occurrences t) + 0 = omega arith in ([], start, r, b)
 
 -- The number of a node depends on what it needs alone.
 module _ (t : Tree) (state : State) (inputs : List ℕ) (v w : Occurrence → ℕ) (p : List ℕ) (n : ℕ) where
@@ -205,7 +205,7 @@ module _ (t : Tree) (whole : IsWhole t) (free : ¬ HasCombLoop t) (st : State) (
       ∙ sym (b (record { path = p; node = n }) x.0 d.2 x.1)
 
   pub settled_once : (v w : Occurrence → ℕ) → IsSettled t st ins v → IsSettled t st ins w → (s : Occurrence) → IsReachedOccurrence t s → v s ≡ w s
-  settled_once v w a b s r = agree_deep v w a b (length (spots t)) s.path s.node (deep_start t whole free s.path s.node r)
+  settled_once v w a b s r = agree_deep v w a b (length (occurrences t)) s.path s.node (deep_start t whole free s.path s.node r)
 
   -- enough rounds change nothing more
   rounds_deep : (f h : ℕ) (p : List ℕ) (n : ℕ) → Deep t whole free f p n → Deep t whole free h p n → rounds f t st ins (record { path = p; node = n }) ≡ rounds h t st ins (record { path = p; node = n })
@@ -219,8 +219,8 @@ module _ (t : Tree) (whole : IsWhole t) (free : ¬ HasCombLoop t) (st : State) (
       go None q a = refl
       go (Some row) q a = value_agrees t st ins (rounds f t st ins) (rounds h t st ins) p n row.node (row, q, refl) a
 
-  -- as many rounds as there are spots settle
-  settled_at : (k : ℕ) → length (spots t) ≡ k → (p : List ℕ) (n : ℕ) (row : NodeRow) → IsAt t p n → slice_get (graph_at t p).nodes n ≡ Some row → rounds k t st ins (record { path = p; node = n }) ≡ value t st ins (rounds k t st ins) p n row.node
+  -- as many rounds as there are occurrences settle
+  settled_at : (k : ℕ) → length (occurrences t) ≡ k → (p : List ℕ) (n : ℕ) (row : NodeRow) → IsAt t p n → slice_get (graph_at t p).nodes n ≡ Some row → rounds k t st ins (record { path = p; node = n }) ≡ value t st ins (rounds k t st ins) p n row.node
   unfolding rounds by_row
   settled_at zero e p n row r q = absurd (deep_none t whole free p n (subst (λ k. Deep t whole free k p n) e (deep_start t whole free p n r)))
   settled_at (suc k) e p n row r q =
@@ -231,4 +231,4 @@ module _ (t : Tree) (whole : IsWhole t) (free : ¬ HasCombLoop t) (st : State) (
       (subst (λ j. Deep t whole free j u m) e (deep_start t whole free u m (step_reached t s r))))
 
   pub some_settled : (v : Occurrence → ℕ) × IsSettled t st ins v
-  some_settled = (rounds (length (spots t)) t st ins, λ s row r q. settled_at (length (spots t)) refl s.path s.node row r q)
+  some_settled = (rounds (length (occurrences t)) t st ins, λ s row r q. settled_at (length (occurrences t)) refl s.path s.node row r q)

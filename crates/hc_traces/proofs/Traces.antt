@@ -1,5 +1,5 @@
 -- A tree without a loop gives the steps of a bench one list of rows.
-use Rattle.std.proofs.Common.{◌≡◌, ℕ, zero, suc, Bool, true, ◌&&◌, ◌==◌, List, [], ◌∷◌, map, length, refl, sym, subst, ◌∙◌, ap, ap₂, map-id}
+use Rattle.std.proofs.Common.{◌≡◌, ℕ, zero, suc, ◌&&◌, ◌==◌, List, [], ◌∷◌, map, length, refl, sym, subst, ◌∙◌, ap, ap₂, map-id}
 use Rattle.std.proofs.lemmas.List.FromFn.{length-enumerate_from}
 use Rattle.std.proofs.lemmas.List.{length-map}
 use Rattle.std.specs.Prelude.{slice_get, unwrap_or, if◌then◌else◌, Option, Some, None}

@@ -6,3 +6,4 @@ pub mod TwinValues
 pub mod TwinTraces
 pub mod FlatValues
 pub mod FlatTraces
+pub mod StartedRuns

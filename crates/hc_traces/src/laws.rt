@@ -1,10 +1,11 @@
 ghost use Rattle.std.specs.Prelude.{◌≡◌, ℕ, List, Option};
+ghost use Rattle.std.specs.Io.KnownBytes.{Appends};
 ghost use Rattle.hc_bench.specs.Listing.{CycleRow, listing};
-ghost use Rattle.hc_bench.specs.Playing.{IsPartListed};
+ghost use Rattle.hc_bench.specs.Playing.{IsListed, IsPartListed};
 ghost use Rattle.hc_bench.specs.Simulation.{State, IsInitialState, IsSettled, IsStateOf};
 ghost use Rattle.hc_canon.specs.Same.{Same};
 ghost use Rattle.hc_bench.specs.Steps.{AreStepsFor};
-ghost use Rattle.hc_bench.specs.Trace.{IsSimulation, Simulation, Trace};
+ghost use Rattle.hc_bench.specs.Trace.{IsAtStart, IsRun, IsSimulation, Simulation, Trace};
 ghost use Rattle.hc_bench.specs.declared.kinds.Step.{Step};
 ghost use Rattle.hc_signal.specs.FlatGraph.{IsFlat};
 ghost use Rattle.hc_signal.specs.Graph.{Graph};
@@ -42,4 +43,14 @@ pub fn same_trees_run_alike()
 /// A tree has the rows of its flat graph: both give them from their initial states, for the steps of any bench.
 pub fn flat_graphs_run_alike()
     ensures { (t : Tree) (g : Graph) → IsFlat t g → IsWhole t → ¬ HasCombLoop t → (state other : State) → IsInitialState t state → IsInitialState (leaf g) other → (inputs : List ℕ) (count : ℕ) (steps : List Step) (rows : List CycleRow) → Trace (leaf g) other inputs count steps rows → Trace t state inputs count steps rows }
+{}
+
+/// The initial states of a tree without a combinational loop give the steps of a bench one list of rows.
+pub fn runs_are_single()
+    ensures { (t : Tree) → IsWhole t → ¬ HasCombLoop t → (steps : List Step) (rows others : List CycleRow) → IsRun t steps rows → IsRun t steps others → rows ≡ others }
+{}
+
+/// What a sink took of a bench that was played from the start is the listing of its run.
+pub fn listings_are_of_runs()
+    ensures { (outputs : List Port) (sim : Simulation) (steps : List Step) (rows : List CycleRow) (old new : Option (List ℕ)) → IsSimulation sim → IsAtStart sim → IsRun sim.tree steps rows → IsListed outputs sim steps old new → Appends old new (listing outputs rows) }
 {}

@@ -37,7 +37,7 @@ cycle_in s t state next inputs before after same is = subst (λ (u : Tree). IsCy
 
 -- ---- listings
 
-listing_append : (outputs : List Port) (rows others : List CycleRow) → listing outputs (rows ++ others) ≡ listing outputs rows ++ listing outputs others
+pub listing_append : (outputs : List Port) (rows others : List CycleRow) → listing outputs (rows ++ others) ≡ listing outputs rows ++ listing outputs others
 listing_append outputs rows others = ap lines_text (map-append (row_text outputs) rows others) ∙ flat_map-append (λ (line : List ℕ). line ++ 10 ∷ []) (map (row_text outputs) rows) (map (row_text outputs) others)
 
 listing_one : (outputs : List Port) (row : CycleRow) → listing outputs (row ∷ []) ≡ row_text outputs row ++ 10 ∷ []

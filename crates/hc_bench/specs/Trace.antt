@@ -1,5 +1,5 @@
 -- Cycles and whole runs of a bench.
-use Rattle.std.specs.Prelude.{◌≡◌, ℕ, zero, suc, ◌<◌, ◌≤◌, List, [], ◌∷◌, length, slice_set}
+use Rattle.std.specs.Prelude.{◌≡◌, ℕ, zero, suc, ◌<◌, ◌≤◌, List, [], ◌∷◌, length, replicate, slice_set}
 use Rattle.hc_bits.specs.BitVector.{BitVector}
 use Rattle.hc_signal.specs.Tree.{Tree, graph, IsWhole}
 use Rattle.hc_signal.specs.Checked.{IsChecked}
@@ -58,6 +58,13 @@ pub record IsSimulation (sim : Simulation) : Type 0 where
   pub inputs : length sim.inputs ≡ length (graph sim.tree).ports.inputs
   pub before : length sim.before ≡ length (graph sim.tree).ports.outputs
   pub after : length sim.after ≡ length (graph sim.tree).ports.outputs
+
+-- A simulator at the start of a run: the initial state and inputs, and outputs of 0.
+pub record IsAtStart (sim : Simulation) : Type 0 where
+  pub state : IsInitialState sim.tree sim.state
+  pub inputs : sim.inputs ≡ initial_inputs sim.tree
+  pub before : sim.before ≡ replicate (length (graph sim.tree).ports.outputs) 0
+  pub after : sim.after ≡ replicate (length (graph sim.tree).ports.outputs) 0
 
 -- One cycle was run: what is new are the state and the outputs.
 pub record RunsCycle (old new : Simulation) : Type 0 where

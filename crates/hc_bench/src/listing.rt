@@ -36,7 +36,7 @@ fn put_hex(digits: &mut [u8], count: usize, value: u128)
 }
 
 /// Writes an output and its value.
-fn write_value<K: Sink>(to: &mut K, port: &Port, value: Bits) -> Result<(), Failed>
+pub(crate) fn write_value<K: Sink>(to: &mut K, port: &Port, value: Bits) -> Result<(), Failed>
     requires { value.width ≡ port.now.width }
     ensures { IsSent (K.taken to.old) (K.taken to.new) (K.faults to.old) (K.faults to.new) result (value_text (port.now, value.value)) }
 {

@@ -3,10 +3,12 @@ ghost use Rattle.hc_bits.specs.BitVector.{IsWidth};
 ghost use Rattle.hc_signal.specs.Lawful.{ArePorts};
 
 use crate::kinds::{Bench, Step};
+use crate::listing::write_value;
 use crate::make::bench;
 use hc_bits::Bits;
 use hc_fault::{FaultKind, ItemList, Name, NoMemory, Refused};
 use hc_lang::parse;
+use hc_outside::MemSink;
 use hc_signal::{Port, Ports};
 use std::alloc::Global;
 use std::process::Abort;
@@ -15,7 +17,8 @@ use std::test::Fail;
 /// A port of this name and width.
 fn port(alloc: Global, name: &str, width: u32) -> Result<Port, NoMemory>
     requires { IsWidth width }
-    ensures { IfOk result (λ port. IsWidth port.width) }
+    ensures given { IfOk result (λ port. port.width ≡ width) }
+    ensures lawful { IfOk result (λ port. IsWidth port.width) }
 {
     let name = Name::new(alloc, name.as_bytes())?;
     Ok(Port { name, width })
@@ -128,5 +131,18 @@ fn steps_in_order(rt: HostRuntime) -> Result<(), Fail> {
         Step::Cycle { times: 1 },
     ];
     assert!(rt; bench.steps.as_slice() == steps.as_slice());
+    Ok(())
+}
+
+#[test]
+fn outputs_in_hexadecimal(rt: HostRuntime) -> Result<(), Fail> {
+    let alloc = rt.alloc();
+    let port = port(alloc, "s", 14)?;
+    let Some(value) = Bits::new(14, 0xc0) else {
+        return Err(Fail::from(NoMemory));
+    };
+    let mut sink = MemSink::new(alloc, 16, Vec::new(alloc), 3)?;
+    assert!(rt; write_value(&mut sink, &port, value) == Ok(()));
+    assert!(rt; sink.bytes() == b" s=00c0".as_slice());
     Ok(())
 }

@@ -1,0 +1,31 @@
+# A first-in first-out queue of a power of two of words, with a count of the words in it.
+circuit fifo width depth
+input push 1
+input pop 1
+input data width
+output q width
+output empty 1
+output full 1
+
+memory store depth width
+wire head bits(depth-1)
+wire tail bits(depth-1)
+wire count bits(depth)
+
+let takes and(pop,not(empty))
+let puts and(push,not(full))
+
+reg head_now add(head,const(bits(depth-1),1)) enable takes
+reg tail_now add(tail,const(bits(depth-1),1)) enable puts
+assign head head_now
+assign tail tail_now
+
+let more add(count,uresize(puts,bits(depth)))
+reg count_now sub(more,uresize(takes,bits(depth)))
+assign count count_now
+
+write store puts tail data
+assign q read(store,head)
+assign empty eq(count,const(bits(depth),0))
+assign full eq(count,const(bits(depth),depth))
+top fifo 8 16

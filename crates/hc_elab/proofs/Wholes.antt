@@ -1,6 +1,6 @@
 -- A call whose children have elaborated, and whose form is inserted, has elaborated.
 use Rattle.std.proofs.Common.{◌≡◌, ℕ, suc, ◌+◌, ◌≤◌, inl, inr, List, [], ◌∷◌, ◌++◌, length, map, flat_map, fold, max, refl, sym, ap, subst, ◌∙◌, arith, append_assoc}
-use Rattle.std.proofs.lemmas.List.{map-append}
+use Rattle.std.proofs.lemmas.List.{map-append, length-map}
 use Rattle.std.specs.Prelude.{slice_get, Some, sum_by, Ok}
 use Rattle.hc_fault.specs.declared.fault.Path.{Path}
 use Rattle.hc_lang.specs.declared.tree.CircuitText.{CircuitText}
@@ -24,10 +24,10 @@ use Rattle.hc_body.specs.BodyOf.{IsCallOf, BodyOf}
 use Rattle.hc_statements.specs.Elaborated.{child_path}
 use Rattle.hc_statements.specs.PortWidths.{port_widths, ports_of}
 use Rattle.hc_elab.specs.Elaborates.{Sums, ElaboratedCall, Elaborated, ElaborateChildren, whole, own_sums, body_tree, elaborated_call}
-use Rattle.hc_elab.specs.Hierarchies.{AreCallsFor, IsHierarchyFor, LogsWalk}
+use Rattle.hc_elab.specs.Hierarchies.{AreCallsFor, IsCallFor, IsHierarchyFor, LogsWalk, sums_of}
 use Rattle.hc_elab.specs.Calls.{IsBody, AreKidsFor, AreElaborated, IsElaborated, IsMade, entry_of, masks_in, most_below}
 use Rattle.hc_elab.proofs.Bodies.{HavePorts, HaveChildren, body_weight}
-use Rattle.hc_elab.proofs.Denoting.{trees_of, kid_denotes, form_denotes, masks_of_kids}
+use Rattle.hc_elab.proofs.Denoting.{trees_of, kid_denotes, form_denotes, masks_of_kids, same_count}
 use Rattle.hc_elab.proofs.Inverted.{Whole, is_whole, same_many, ChildAt, child_at, instances_add, weights_add, one_circuit}
 use Rattle.hc_elab.proofs.OwnCall.{owns, call_over}
 use Rattle.hc_elab.proofs.Stays.{kids_grow}
@@ -135,14 +135,25 @@ module _ (d : Design) (have_ports : HavePorts d) (have_children : HaveChildren d
       let e : (hier_view h).levels ≡ suc (most_below hs) = made.levels in
       omega (arith, m, e)
 
+  own_sums_are : sums_of (hier_view h).own ≡ sums
+  own_sums_are = λ i. record { instances = made.instances i; weight = made.weight i; words = made.words i }
+
+  own_call : IsCallFor new.entries (record { own = (hier_view h).own; kids = owns hs }) (record { name = c.name; tree = body_tree b done.of; sums = sums; kids = length done.of })
+  own_call = record {
+    name = made.name;
+    tree = denotes;
+    sums = own_sums_are;
+    kids = length-map hs (λ (k : Hier). (hier_view k).own) ∙ same_count new.entries (suc level) hs done.of kids;
+  }
+
   hierarchy : IsHierarchyFor new.entries h (elaborated_call c b sums done.of)
   hierarchy = record {
     elaboration = record { levels = (let l : level + (hier_view h).levels ≤ 65 = levels in omega (arith, l, above)); calls = over };
     calls = subst (λ (l : List CallView). AreCallsFor new.entries l (elaborated_call c b sums done.of).calls) (sym made.calls)
-        (calls_append new.entries (flat_map walk hs) (record { own = (hier_view h).own; kids = owns hs } ∷ []) (flat_map (λ (k : Elaborated). k.calls) done.of) (record { name = c.name; tree = body_tree b done.of } ∷ [])
-        (kids_calls new.entries (suc level) hs done.of kids) (record { name = made.name; tree = denotes }, tt));
+        (calls_append new.entries (flat_map walk hs) (record { own = (hier_view h).own; kids = owns hs } ∷ []) (flat_map (λ (k : Elaborated). k.calls) done.of) (record { name = c.name; tree = body_tree b done.of; sums = sums; kids = length done.of } ∷ [])
+        (kids_calls new.entries (suc level) hs done.of kids) (own_call, tt));
     top = denotes;
-    sums = λ i. record { instances = made.instances i; weight = made.weight i; words = made.words i };
+    sums = own_sums_are;
   }
 
   turns : LogsWalk old new h

@@ -194,7 +194,7 @@ fn elab_call(
 /// passed; or F33 of a call, on line 0. Turns that were taken before a fault stay in the log, and so do those before memory
 /// ran out.
 pub fn elab_one(alloc: Global, design: &Design, db: &mut DbState) -> Result<Hier, Refused>
-    ensures hierarchy { IfOk result (λ h. (e : spec.Elaborated) × spec.DesignElaborates design.now (Ok e) × of.IsHierarchyFor db.new.entries h e) }
+    ensures hierarchy { IfOk result (λ h. of.ElaboratesIn design.now db.new.entries h) }
     ensures turns { IfOk result (λ h. of.LogsWalk db.old db.new h) }
     ensures fault { Faults (λ f. spec.DesignElaborates design.now (Err f)) result }
     ensures grew { of.LogGrew db.old db.new }

@@ -83,6 +83,7 @@ module _ (h : History) (legal : IsLegal h) (more : List FormView) where
     calls = calls_stay (walk x) e.calls is.elaboration.calls is.calls;
     top = denotes_stays (hier_view x).own.entry e.tree (top_within h.entries x is.elaboration) is.top;
     sums = is.sums;
+    whole = is.whole;
   }
 
   kids_stay : (level : ℕ) (hs : List Hier) (es : List Elaborated) → AreKidsFor h.entries level hs es → AreKidsFor (h.entries ++ more) level hs es

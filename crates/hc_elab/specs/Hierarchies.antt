@@ -2,6 +2,7 @@
 use Rattle.std.specs.Prelude.{◌≡◌, List, [], ◌∷◌, ◌++◌, length, map, Ok}
 use Rattle.hc_canon.specs.FormView.{FormView}
 use Rattle.hc_lang.specs.declared.tree.Design.{Design}
+use Rattle.hc_signal.specs.Tree.{IsWhole}
 use Rattle.hc_dbstate.specs.declared.hier.Hier.{Hier}
 use Rattle.hc_dbstate.specs.declared.turns.Entered.{Entered}
 use Rattle.hc_dbstate.specs.Elaboration.{CallRow, CallView, IsElaboration, hier_view, walk}
@@ -26,13 +27,14 @@ AreCallsFor entries [] (e ∷ es) = ⊥
 AreCallsFor entries (c ∷ cs) [] = ⊥
 AreCallsFor entries (c ∷ cs) (e ∷ es) = IsCallFor entries c e × AreCallsFor entries cs es
 
--- The hierarchy is an elaboration in the database. Its walk, its top and its sums are those of the elaborated call. A walk
--- has children before parents, so that the numbers of children tell which call is whose child.
+-- The hierarchy is an elaboration in the database. Its walk, its top and its sums are those of the elaborated call, whose
+-- tree is whole. A walk has children before parents, so that the numbers of children tell which call is whose child.
 pub record IsHierarchyFor (entries : List FormView) (h : Hier) (e : Elaborated) : Type 0 where
   pub elaboration : IsElaboration entries h
   pub calls : AreCallsFor entries (walk h) e.calls
   pub top : Denotes entries (hier_view h).own.entry e.tree
   pub sums : sums_of (hier_view h).own ≡ e.sums
+  pub whole : IsWhole e.tree
 
 -- the design elaborates, and the hierarchy over the entries stands for what it elaborates to
 abbrev pub ElaboratesIn : Design → List FormView → Hier → Type 0

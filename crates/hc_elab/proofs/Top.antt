@@ -1,5 +1,5 @@
 -- What a design elaborates to, by the call of its top line.
-use Rattle.std.proofs.Common.{◌≡◌, ℕ, List, [], ◌∷◌, ◌++◌, flat_map, refl, sym, subst}
+use Rattle.std.proofs.Common.{◌≡◌, List, [], ◌∷◌, ◌++◌, flat_map, refl, sym, subst}
 use Rattle.std.specs.Prelude.{Ok, Err}
 use Rattle.hc_fault.specs.declared.fault.Path.{Path}
 use Rattle.hc_fault.specs.declared.fault.Refused.{Refused}

@@ -9,7 +9,7 @@ use Rattle.hc_lang.specs.declared.tree.Design.{Design}
 use Rattle.hc_signal.specs.Member.{Has, first, later}
 use Rattle.hc_signal.specs.declared.signal.Instance.{Instance}
 use Rattle.hc_signal.specs.Lawful.{IsLawful}
-use Rattle.hc_signal.specs.Tree.{Tree, tree, graph, IsWhole}
+use Rattle.hc_signal.specs.Tree.{tree, graph, IsWhole}
 use Rattle.hc_signal.specs.Occurrences.{HasCombLoop}
 use Rattle.hc_paths.specs.Local.{AreMasksOfKids}
 use Rattle.hc_canon.specs.FormView.{FormView}

@@ -6,6 +6,7 @@ use Rattle.std.specs.Prelude.{Some, None, Result, Ok, Err, OnOk}
 use Rattle.hc_fault.specs.declared.fault.Fault.{Fault}
 use Rattle.hc_fault.specs.declared.fault.FaultKind.{FaultKind}
 use Rattle.hc_fault.specs.declared.fault.FaultKind.TheVariants.{TooDeep}
+use Rattle.hc_fault.specs.declared.fault.Ident.{Ident}
 use Rattle.hc_fault.specs.declared.fault.Path.{Path}
 use Rattle.hc_fault.specs.declared.fault.Refused.{Refused}
 use Rattle.hc_fault.specs.declared.fault.Refused.TheVariants as refused
@@ -99,6 +100,9 @@ pub grew_on : (old mid new : History) → LogGrew old mid → LogGrew mid new �
 grew_on old mid new a b = (a.0 ++ b.0, b.1 ∙ ap (λ xs. xs ++ b.0) a.1 ∙ append_assoc (log old) a.0 b.0)
 
 -- ---- one child
+
+pub inner_path : (path inner : Path) (step : Ident) → inner.steps ≡ path.steps ++ step ∷ [] → inner ≡ child_path path step
+inner_path path inner step e = ap (λ (steps : List Ident). let p : Path = record { steps = steps } in p) e
 
 next_level : (n : ℕ) → n + 1 ≡ suc n
 next_level n = omega arith

@@ -67,8 +67,15 @@ module _ (h : History) (legal : IsLegal h) (more : List FormView) where
   calls_stay [] (e ∷ es) over are = absurd are
   calls_stay (c ∷ cs) [] over are = absurd are
   calls_stay (c ∷ cs) (e ∷ es) over are =
-      let o : IsCallOver h.entries c = over c first in
-      (record { name = are.0.name; tree = denotes_stays c.own.entry e.tree (slice_get_within h.entries c.own.entry.0 o.form o.found) are.0.tree }, calls_stay cs es (λ call m. over call (later m)) are.1)
+      let o : IsCallOver h.entries c = over c first in (
+        record {
+          name = are.0.name;
+          tree = denotes_stays c.own.entry e.tree (slice_get_within h.entries c.own.entry.0 o.form o.found) are.0.tree;
+          sums = are.0.sums;
+          kids = are.0.kids;
+        },
+        calls_stay cs es (λ call m. over call (later m)) are.1,
+      )
 
   hierarchy_stays : (x : Hier) (e : Elaborated) → IsHierarchyFor h.entries x e → IsHierarchyFor (h.entries ++ more) x e
   hierarchy_stays x e is = record {
@@ -76,6 +83,7 @@ module _ (h : History) (legal : IsLegal h) (more : List FormView) where
     calls = calls_stay (walk x) e.calls is.elaboration.calls is.calls;
     top = denotes_stays (hier_view x).own.entry e.tree (top_within h.entries x is.elaboration) is.top;
     sums = is.sums;
+    whole = is.whole;
   }
 
   kids_stay : (level : ℕ) (hs : List Hier) (es : List Elaborated) → AreKidsFor h.entries level hs es → AreKidsFor (h.entries ++ more) level hs es

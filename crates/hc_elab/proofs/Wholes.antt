@@ -1,14 +1,15 @@
 -- A call whose children have elaborated, and whose form is inserted, has elaborated.
-use Rattle.std.proofs.Common.{◌≡◌, ℕ, suc, ◌+◌, ◌≤◌, inl, inr, List, [], ◌∷◌, ◌++◌, length, map, flat_map, fold, max, refl, sym, ap, subst, ◌∙◌, arith, append_assoc}
-use Rattle.std.proofs.lemmas.List.{map-append}
-use Rattle.std.specs.Prelude.{slice_get, Some, sum_by, Ok}
+use Rattle.std.proofs.Common.{◌≡◌, ℕ, zero, suc, ◌+◌, ◌<◌, ◌≤◌, inl, inr, List, [], ◌∷◌, ◌++◌, length, map, flat_map, fold, max, refl, sym, ap, subst, ◌∙◌, arith, append_assoc}
+use Rattle.std.proofs.lemmas.List.{map-append, length-map}
+use Rattle.std.proofs.lemmas.Option.{slice_get_within}
+use Rattle.std.specs.Prelude.{slice_get, Some, sum_by, unwrap_or, Ok}
 use Rattle.hc_fault.specs.declared.fault.Path.{Path}
 use Rattle.hc_lang.specs.declared.tree.CircuitText.{CircuitText}
 use Rattle.hc_lang.specs.declared.tree.Design.{Design}
 use Rattle.hc_signal.specs.Member.{Has, first, later}
 use Rattle.hc_signal.specs.declared.signal.Instance.{Instance}
 use Rattle.hc_signal.specs.Lawful.{IsLawful}
-use Rattle.hc_signal.specs.Tree.{tree, graph}
+use Rattle.hc_signal.specs.Tree.{tree, graph, IsWhole}
 use Rattle.hc_signal.specs.Occurrences.{HasCombLoop}
 use Rattle.hc_paths.specs.Local.{AreMasksOfKids}
 use Rattle.hc_canon.specs.FormView.{FormView}
@@ -17,17 +18,18 @@ use Rattle.hc_dbstate.specs.declared.turns.Entered.{Entered}
 use Rattle.hc_dbstate.specs.Elaboration.{CallView, HierView, IsCallOver, hier_view, walk}
 use Rattle.hc_dbstate.specs.History.{History, IsLegal, log, entered}
 use Rattle.hc_dbstate.specs.Unfolding.{Denotes}
+use Rattle.hc_dbstate.proofs.Triples.{some_at}
 use Rattle.hc_walk.proofs.Members.{has_cases}
 use Rattle.hc_statements.specs.declared.kinds.Call.{Call}
 use Rattle.hc_body.specs.declared.kinds.Body.{Body}
 use Rattle.hc_body.specs.BodyOf.{IsCallOf, BodyOf}
 use Rattle.hc_statements.specs.Elaborated.{child_path}
 use Rattle.hc_statements.specs.PortWidths.{port_widths, ports_of}
-use Rattle.hc_elab.specs.Elaborates.{Sums, ElaboratedCall, Elaborated, ElaborateChildren, whole, own_sums, body_tree, elaborated_call}
-use Rattle.hc_elab.specs.Hierarchies.{AreCallsFor, IsHierarchyFor, LogsWalk}
+use Rattle.hc_elab.specs.Elaborates.{Sums, ElaboratedCall, Elaborated, ElaborateChildren, whole, own_sums, tree_of_kid, body_tree, elaborated_call}
+use Rattle.hc_elab.specs.Hierarchies.{AreCallsFor, IsCallFor, IsHierarchyFor, LogsWalk, sums_of}
 use Rattle.hc_elab.specs.Calls.{IsBody, AreKidsFor, AreElaborated, IsElaborated, IsMade, entry_of, masks_in, most_below}
 use Rattle.hc_elab.proofs.Bodies.{HavePorts, HaveChildren, body_weight}
-use Rattle.hc_elab.proofs.Denoting.{trees_of, kid_denotes, form_denotes, masks_of_kids}
+use Rattle.hc_elab.proofs.Denoting.{trees_of, kid_denotes, form_denotes, masks_of_kids, same_count}
 use Rattle.hc_elab.proofs.Inverted.{Whole, is_whole, same_many, ChildAt, child_at, instances_add, weights_add, one_circuit}
 use Rattle.hc_elab.proofs.OwnCall.{owns, call_over}
 use Rattle.hc_elab.proofs.Stays.{kids_grow}
@@ -54,6 +56,13 @@ kids_over entries level (h ∷ hs) (e ∷ es) are call m =
       | inl here ↦ are.0.hierarchy.elaboration.calls call here
       | inr there ↦ kids_over entries level hs es are.1 call there
     ]
+
+kids_whole : (entries : List FormView) (level : ℕ) (hs : List Hier) (es : List Elaborated) → AreKidsFor entries level hs es → (i : ℕ) (e : Elaborated) → slice_get es i ≡ Some e → IsWhole e.tree
+kids_whole entries level [] [] are i e q = cc
+kids_whole entries level [] (k ∷ es) are i e q = absurd are
+kids_whole entries level (h ∷ hs) [] are i e q = absurd are
+kids_whole entries level (h ∷ hs) (k ∷ es) are zero e q = subst (λ (x : Elaborated). IsWhole x.tree) (ap (λ o. unwrap_or o e) q) are.0.hierarchy.whole
+kids_whole entries level (h ∷ hs) (k ∷ es) are (suc i) e q = kids_whole entries level hs es are.1 i e q
 
 max_within : (a b c n : ℕ) → n + a ≤ c → n + b ≤ c → n + max a b ≤ c
 max_within a b c n p q = omega (arith, p, q)
@@ -135,14 +144,34 @@ module _ (d : Design) (have_ports : HavePorts d) (have_children : HaveChildren d
       let e : (hier_view h).levels ≡ suc (most_below hs) = made.levels in
       omega (arith, m, e)
 
+  kids_of_whole : (i : ℕ) (it : Instance) → slice_get b.circuit.instances i ≡ Some it → ((graph (trees_of done.of i)).ports ≡ it.ports) × IsWhole (trees_of done.of i)
+  kids_of_whole i it at =
+      let many : length done.of ≡ length b.circuit.instances = count_of_kids d have_ports have_children level path call c b body sums done.of done.elaborate in
+      let e : (e : Elaborated) × (slice_get done.of i ≡ Some e) = some_at done.of i (subst (λ n. i < n) (sym many) (slice_get_within b.circuit.instances i it at)) in (
+        masks.ports i it at,
+        subst (λ o. IsWhole (tree_of_kid o)) (sym e.1) (kids_whole new.entries (suc level) hs done.of kids i e.0 e.1),
+      )
+
+  own_sums_are : sums_of (hier_view h).own ≡ sums
+  own_sums_are = λ i. record { instances = made.instances i; weight = made.weight i; words = made.words i }
+
+  own_call : IsCallFor new.entries (record { own = (hier_view h).own; kids = owns hs }) (record { name = c.name; tree = body_tree b done.of; sums = sums; kids = length done.of })
+  own_call = record {
+    name = made.name;
+    tree = denotes;
+    sums = own_sums_are;
+    kids = length-map hs (λ (k : Hier). (hier_view k).own) ∙ same_count new.entries (suc level) hs done.of kids;
+  }
+
   hierarchy : IsHierarchyFor new.entries h (elaborated_call c b sums done.of)
   hierarchy = record {
     elaboration = record { levels = (let l : level + (hier_view h).levels ≤ 65 = levels in omega (arith, l, above)); calls = over };
     calls = subst (λ (l : List CallView). AreCallsFor new.entries l (elaborated_call c b sums done.of).calls) (sym made.calls)
-        (calls_append new.entries (flat_map walk hs) (record { own = (hier_view h).own; kids = owns hs } ∷ []) (flat_map (λ (k : Elaborated). k.calls) done.of) (record { name = c.name; tree = body_tree b done.of } ∷ [])
-        (kids_calls new.entries (suc level) hs done.of kids) (record { name = made.name; tree = denotes }, tt));
+        (calls_append new.entries (flat_map walk hs) (record { own = (hier_view h).own; kids = owns hs } ∷ []) (flat_map (λ (k : Elaborated). k.calls) done.of) (record { name = c.name; tree = body_tree b done.of; sums = sums; kids = length done.of } ∷ [])
+        (kids_calls new.entries (suc level) hs done.of kids) (own_call, tt));
     top = denotes;
-    sums = λ i. record { instances = made.instances i; weight = made.weight i; words = made.words i };
+    sums = own_sums_are;
+    whole = (lawful, kids_of_whole);
   }
 
   turns : LogsWalk old new h

@@ -1,5 +1,5 @@
 -- Sequential elaboration: what each call of a design gives, depth first, or the first fault.
-use Rattle.std.specs.Prelude.{◌≡◌, ℕ, suc, ◌+◌, ◌<◌, ◌≤◌, nat_lt, if◌then◌else◌, List, [], ◌∷◌, ◌++◌, flat_map, slice_get, Option, Some, None, Result, Ok, Err}
+use Rattle.std.specs.Prelude.{◌≡◌, ℕ, suc, ◌+◌, ◌<◌, ◌≤◌, nat_lt, if◌then◌else◌, List, [], ◌∷◌, ◌++◌, flat_map, length, slice_get, Option, Some, None, Result, Ok, Err}
 use Rattle.hc_fault.specs.declared.fault.FaultKind.{FaultKind}
 use Rattle.hc_fault.specs.declared.fault.FaultKind.TheVariants.{TooDeep, TooManyInstances, DesignWeight, DesignWords, CombLoop}
 use Rattle.hc_fault.specs.declared.fault.Fault.{Fault}
@@ -43,12 +43,15 @@ limit_passed s =
     if nat_lt most_weight s.weight then Some DesignWeight else
     if nat_lt most_words s.words then Some DesignWords else None
 
--- a call of a hierarchy: the name that it requests for its module, and its tree
+-- a call of a hierarchy: the name that it requests for its module, its tree, its sums, and how many children it has
 pub record ElaboratedCall : Type 0 where
   pub name : List ℕ
   pub tree : Tree
+  pub sums : Sums
+  pub kids : ℕ
 
--- the tree of a call, its sums, and all calls of its hierarchy: children before parents, siblings in the order of their lines
+-- The tree of a call, its sums, and all calls of its hierarchy: children before parents, siblings in the order of their
+-- lines. In this order the numbers of children tell which call is whose child.
 pub record Elaborated : Type 0 where
   pub tree : Tree
   pub sums : Sums
@@ -70,7 +73,7 @@ abbrev pub elaborated_call : CircuitText → Body → Sums → List Elaborated �
 elaborated_call c b sums kids = record {
   tree = body_tree b kids;
   sums = sums;
-  calls = flat_map (λ (k : Elaborated). k.calls) kids ++ record { name = c.name; tree = body_tree b kids } ∷ [];
+  calls = flat_map (λ (k : Elaborated). k.calls) kids ++ record { name = c.name; tree = body_tree b kids; sums = sums; kids = length kids } ∷ [];
 }
 
 -- ---- elaboration

@@ -11,15 +11,16 @@ ghost use Rattle.hc_fault.specs.declared.fault.FaultKind.{FaultKind};
 ghost use Rattle.hc_lang.specs.declared.tree.CircuitText.{CircuitText};
 ghost use Rattle.hc_signal.specs.Member.{Has};
 
-use crate::faults::{path_of_child, refused_at};
 use crate::made::complete;
 use crate::sums::{Sums, has_few_words, limit_passed, own_sums, plus, sums_of};
-use hc_body::kinds::{Body, Call, Child};
+use hc_body::kinds::Body;
 use hc_body::laws::{bodies_have_their_children, bodies_have_their_ports, calls_of_the_top};
 use hc_body::make::{body, top_call};
 use hc_dbstate::{DbState, Hier};
 use hc_fault::{FaultKind, ItemList, Path, Refused};
 use hc_lang::{CircuitText, Design};
+use hc_statements::kinds::{Call, Child};
+use hc_statements::refused_at;
 use std::alloc::Global;
 
 const MOST_LEVELS: usize = 64;
@@ -101,7 +102,7 @@ fn elab_child(
     if level >= MOST_LEVELS {
         return Err(refused_at(alloc, path, FaultKind::TooDeep, child.line));
     }
-    let Ok(inner) = path_of_child(alloc, path, &child.ident) else {
+    let Ok(inner) = path.child(alloc, &child.ident) else {
         return Err(Refused::NoMemory);
     };
     match elab_call(alloc, design, db, &child.call, &inner, level + 1) {
@@ -193,7 +194,7 @@ fn elab_call(
 /// passed; or F33 of a call, on line 0. Turns that were taken before a fault stay in the log, and so do those before memory
 /// ran out.
 pub fn elab_one(alloc: Global, design: &Design, db: &mut DbState) -> Result<Hier, Refused>
-    ensures hierarchy { IfOk result (λ h. (e : spec.Elaborated) × spec.DesignElaborates design.now (Ok e) × of.IsHierarchyFor db.new.entries h e) }
+    ensures hierarchy { IfOk result (λ h. of.ElaboratesIn design.now db.new.entries h) }
     ensures turns { IfOk result (λ h. of.LogsWalk db.old db.new h) }
     ensures fault { Faults (λ f. spec.DesignElaborates design.now (Err f)) result }
     ensures grew { of.LogGrew db.old db.new }

@@ -1,4 +1,4 @@
-ghost use Rattle.std.specs.Prelude.{◌≡◌, ◌++◌, ◌∷◌, [], List, Ok, Result, ℕ};
+ghost use Rattle.std.specs.Prelude.{◌≡◌, ◌++◌, ◌∷◌, [], List, Ok, Result};
 ghost use Rattle.hc_elab.specs.Elaborates.{DesignElaborates, Elaborated, ElaboratedCall};
 ghost use Rattle.hc_fault.specs.declared.fault.Fault.{Fault};
 ghost use Rattle.hc_lang.specs.declared.tree.Design.{Design};
@@ -13,8 +13,8 @@ pub fn designs_elaborate_once()
     bodies_are_single();
 }
 
-/// The tree of an elaborated design has no combinational loop, and is that of its last call.
+/// The tree of an elaborated design has no combinational loop. It and the sums are those of the last call.
 pub fn elaborated_trees()
     ensures free { (d : Design) (e : Elaborated) → DesignElaborates d (Ok e) → ¬ HasCombLoop e.tree }
-    ensures last { (d : Design) (e : Elaborated) → DesignElaborates d (Ok e) → (calls : List ElaboratedCall) × (name : List ℕ) × (e.calls ≡ calls ++ record { name = name; tree = e.tree } ∷ []) }
+    ensures last { (d : Design) (e : Elaborated) → DesignElaborates d (Ok e) → (calls : List ElaboratedCall) × (last : ElaboratedCall) × (e.calls ≡ calls ++ last ∷ []) × (last.tree ≡ e.tree) × (last.sums ≡ e.sums) }
 {}

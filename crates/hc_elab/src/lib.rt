@@ -2,7 +2,6 @@
 #![tactic(auto)]
 
 mod elab;
-mod faults;
 mod kids;
 mod laws;
 mod made;

@@ -12,7 +12,6 @@ ghost use Rattle.hc_signal.specs.Member.{Has};
 ghost use Rattle.hc_signal.specs.Occurrences.{AreMasks, HasCombLoop};
 ghost use Rattle.hc_signal.specs.Tree.{Tree, tree};
 
-use crate::faults::refused_at;
 use crate::kids::{entries, paths_of_kids};
 use crate::sums::Sums;
 use hc_canon::{EntryId, canon};
@@ -21,6 +20,7 @@ use hc_fault::{FaultKind, ItemList, Name, NoMemory, Path, Refused};
 use hc_paths::kinds::{PathStop, Paths};
 use hc_paths::make::paths;
 use hc_signal::Circuit;
+use hc_statements::refused_at;
 use std::alloc::Global;
 
 /// A call with its name, its entry, its paths, its sums and the calls of its instances.

@@ -1,5 +1,5 @@
 use Rattle.std.proofs.Common.{rules}
-use Rattle.hc_elab.proofs.Children.{has_at, none_yet, one_added, fault_here, child_added, limit_faults, inner_faults, deep_faults}
+use Rattle.hc_elab.proofs.Children.{has_at, none_yet, one_added, fault_here, child_added, limit_faults, inner_faults, inner_path, deep_faults}
 use Rattle.hc_elab.specs.Calls.{IsBody}
 use Rattle.hc_elab.proofs.Called.{children_called, own_within, children_fail, checked, done_with, kids_many, kids_known, loop_fails}
 use Rattle.hc_elab.proofs.Wholes.{elaborated}
@@ -12,15 +12,15 @@ elab_child-returns-then-level-ge-MOST_LEVELS-clause-fault t c = deep_faults _ _ 
 pub elab_child-returns-in-Ok-elab_call-clause-ok :
     goal.elab_child-returns-in-Ok-elab_call-clause-ok
 elab_child-returns-in-Ok-elab_call-clause-ok t c =
-    child_added _ _ _ _ _ _ _ _ _ _ _ _ _ c.in-Ok.ensures c.if-level-ge-MOST_LEVELS.false c.in-Ok-elab_call.ensures.ok c.add_kid.ensures.sums c.add_kid.ensures.under c.add_kid.ensures.kids
+    child_added _ _ _ _ _ _ _ _ _ _ _ _ _ (inner_path _ _ _ c.in-Ok.ensures) c.if-level-ge-MOST_LEVELS.false c.in-Ok-elab_call.ensures.ok c.add_kid.ensures.sums c.add_kid.ensures.under c.add_kid.ensures.kids
 
 pub elab_child-returns-in-Ok-elab_call-clause-fault :
     goal.elab_child-returns-in-Ok-elab_call-clause-fault
 elab_child-returns-in-Ok-elab_call-clause-fault t c =
-    limit_faults _ _ _ _ _ _ _ _ _ _ c.in-Ok.ensures c.if-level-ge-MOST_LEVELS.false c.in-Ok-elab_call.ensures.ok c.add_kid.ensures.fault
+    limit_faults _ _ _ _ _ _ _ _ _ _ (inner_path _ _ _ c.in-Ok.ensures) c.if-level-ge-MOST_LEVELS.false c.in-Ok-elab_call.ensures.ok c.add_kid.ensures.fault
 
 pub elab_child-returns-clause-fault : goal.elab_child-returns-clause-fault
-elab_child-returns-clause-fault t c = inner_faults _ _ _ _ _ _ _ c.in-Ok.ensures c.if-level-ge-MOST_LEVELS.false c.in-Err.ensures.fault
+elab_child-returns-clause-fault t c = inner_faults _ _ _ _ _ _ _ (inner_path _ _ _ c.in-Ok.ensures) c.if-level-ge-MOST_LEVELS.false c.in-Err.ensures.fault
 
 pub elab_children-children-init : goal.elab_children-children-init
 elab_children-children-init t c = none_yet _ _ _ _ _ _ c.new-kids.ensures c.requires.within

@@ -97,14 +97,17 @@ named_from before (t ∷ ts) legal n low high = by (λ more from a b. named_from
   where
     count : fresh_turns (t ∷ ts) ≡ cond t.fresh 1 0 + fresh_turns ts
     count = fresh_cons t ts
+
     rest : (more : ℕ) → cond t.fresh 1 0 ≡ more → AreLegalFrom (before + more) ts
     rest more is k u e =
         let all : before + fresh_turns (t ∷ take k ts) ≡ before + more + fresh_turns (take k ts) = (let c : fresh_turns (t ∷ take k ts) ≡ cond t.fresh 1 0 + fresh_turns (take k ts) = fresh_cons t (take k ts) in omega (arith, c, is)) in
         subst (λ (m : ℕ). IsLegalTurn m u.entry.0 u.fresh) all (legal (suc k) u e)
+
     here : t.fresh ≡ true → t.entry.0 ≡ before
     here is =
         let at : IsLegalTurn (before + fresh_turns []) t.entry.0 true = subst (λ (f : Bool). IsLegalTurn (before + fresh_turns []) t.entry.0 f) is (legal zero t refl) in
         let none : fresh_turns [] ≡ 0 = refl in omega (arith, at, none)
+
     of_fresh : ((more : ℕ) → AreLegalFrom more ts → more ≤ n → n < more + fresh_turns ts → Has (entries_of ts) (record { 0 = n })) → t.fresh ≡ true → (b : Bool) → (n == before) ≡ b → Has (entries_of (t ∷ ts)) (record { 0 = n })
     of_fresh next is true e =
         let same : n ≡ before = (Decides-eqb n before).0 e in
@@ -113,6 +116,7 @@ named_from before (t ∷ ts) legal n low high = by (λ more from a b. named_from
         let one : ◌≡◌ {A = ℕ} (cond t.fresh 1 0) 1 = ap (λ b. cond b 1 0) is in
         let apart : n ≡ before → ⊥ = λ same. (let t : (n == before) ≡ true = (Decides-eqb n before).1 same in cc) in
         later (next (before + 1) (rest 1 one) (omega (arith, low, apart)) (omega (arith, high, count, one)))
+
     by : ((more : ℕ) → AreLegalFrom more ts → more ≤ n → n < more + fresh_turns ts → Has (entries_of ts) (record { 0 = n })) → (b : Bool) → t.fresh ≡ b → Has (entries_of (t ∷ ts)) (record { 0 = n })
     by next true is = of_fresh next is (n == before) refl
     by next false is =

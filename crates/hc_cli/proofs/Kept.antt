@@ -1,6 +1,6 @@
 -- The history of an elaboration is that of its calls.
 use Rattle.std.proofs.Common.{◌≡◌, ◌≤◌, ◌<◌, ◌+◌, ℕ, zero, suc, Bool, true, false, cond, ◌==◌, List, [], ◌∷◌, ◌++◌, map, length, take, refl, sym, ap, ap₂, subst, ◌∙◌, arith}
-use Rattle.std.specs.Prelude.{Some, slice_get, count_by, ◌↔◌}
+use Rattle.std.specs.Prelude.{Some, slice_get, ◌↔◌}
 use Rattle.std.proofs.lemmas.Bool.Decides.{Decides-eqb}
 use Rattle.std.proofs.lemmas.List.Sums.{sum_by-cons}
 use Rattle.std.proofs.lemmas.Option.{slice_get_within}
@@ -16,7 +16,7 @@ use Rattle.hc_dbstate.specs.declared.turns.Turn.{Turn}
 use Rattle.hc_dbstate.specs.Elaboration.{CallView, IsElaboration, walk}
 use Rattle.hc_dbstate.specs.History.{History, IsLegal, IsLegalTurn, fresh_turns, log}
 use Rattle.hc_dbstate.specs.Unfolding.{unfolding_of}
-use Rattle.hc_dbstate.proofs.Triples.{NameEntries, legal_names, log_is, some_at, some_once, triples, triples_step}
+use Rattle.hc_dbstate.proofs.Triples.{NameEntries, legal_names, log_is, some_at, triples, triples_step}
 use Rattle.hc_elab.specs.Elaborates.{Elaborated, ElaboratedCall}
 use Rattle.hc_elab.specs.Hierarchies.{AreCallsFor, IsCallFor, IsHierarchyFor, LogsWalk}
 use Rattle.hc_cli.specs.Histories.{AreTurnsOf, IsEntryOf, IsHistoryOf, IsOnce, no_history}
@@ -97,14 +97,17 @@ named_from before (t ∷ ts) legal n low high = by (λ more from a b. named_from
   where
     count : fresh_turns (t ∷ ts) ≡ cond t.fresh 1 0 + fresh_turns ts
     count = fresh_cons t ts
+
     rest : (more : ℕ) → cond t.fresh 1 0 ≡ more → AreLegalFrom (before + more) ts
     rest more is k u e =
         let all : before + fresh_turns (t ∷ take k ts) ≡ before + more + fresh_turns (take k ts) = (let c : fresh_turns (t ∷ take k ts) ≡ cond t.fresh 1 0 + fresh_turns (take k ts) = fresh_cons t (take k ts) in omega (arith, c, is)) in
         subst (λ (m : ℕ). IsLegalTurn m u.entry.0 u.fresh) all (legal (suc k) u e)
+
     here : t.fresh ≡ true → t.entry.0 ≡ before
     here is =
         let at : IsLegalTurn (before + fresh_turns []) t.entry.0 true = subst (λ (f : Bool). IsLegalTurn (before + fresh_turns []) t.entry.0 f) is (legal zero t refl) in
         let none : fresh_turns [] ≡ 0 = refl in omega (arith, at, none)
+
     of_fresh : ((more : ℕ) → AreLegalFrom more ts → more ≤ n → n < more + fresh_turns ts → Has (entries_of ts) (record { 0 = n })) → t.fresh ≡ true → (b : Bool) → (n == before) ≡ b → Has (entries_of (t ∷ ts)) (record { 0 = n })
     of_fresh next is true e =
         let same : n ≡ before = (Decides-eqb n before).0 e in
@@ -113,6 +116,7 @@ named_from before (t ∷ ts) legal n low high = by (λ more from a b. named_from
         let one : ◌≡◌ {A = ℕ} (cond t.fresh 1 0) 1 = ap (λ b. cond b 1 0) is in
         let apart : n ≡ before → ⊥ = λ same. (let t : (n == before) ≡ true = (Decides-eqb n before).1 same in cc) in
         later (next (before + 1) (rest 1 one) (omega (arith, low, apart)) (omega (arith, high, count, one)))
+
     by : ((more : ℕ) → AreLegalFrom more ts → more ≤ n → n < more + fresh_turns ts → Has (entries_of ts) (record { 0 = n })) → (b : Bool) → t.fresh ≡ b → Has (entries_of (t ∷ ts)) (record { 0 = n })
     by next true is = of_fresh next is (n == before) refl
     by next false is =

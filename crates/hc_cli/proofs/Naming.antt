@@ -1,7 +1,7 @@
 -- Each call of a hierarchy has a name, and its calls are named as those of the elaborated design.
-use Rattle.std.proofs.Common.{◌≡◌, ℕ, Bool, true, false, cond, ◌||◌, nat_eq, List, [], ◌∷◌, map, refl, ap, ◌∙◌, sym}
+use Rattle.std.proofs.Common.{◌≡◌, ℕ, Bool, true, false, cond, ◌||◌, nat_eq, List, [], ◌∷◌, map, refl, ap, ◌∙◌}
 use Rattle.std.proofs.lemmas.Bool.Decides.{Decides-eqb}
-use Rattle.std.specs.Prelude.{IsSome, Some, None, is_some}
+use Rattle.std.specs.Prelude.{IsSome, Some, is_some}
 use Rattle.std.specs.List.{zip}
 use Rattle.hc_signal.specs.Member.{Has, first, later}
 use Rattle.hc_canon.specs.declared.form.EntryId.{EntryId}
@@ -34,6 +34,7 @@ keeps_name seen (r ∷ rows) row (later h) free = by (λ more. keeps_name seen r
     other : (b : Bool) → nat_eq row.0.0 r.0.0 ≡ b → (nat_eq row.0.0 r.0.0 ≡ false → IsSome (name_of_entry (first_rows (r.0 ∷ seen) rows) row.0)) → IsSome (cond (nat_eq row.0.0 r.0.0) (Some r.1) (name_of_entry (first_rows (r.0 ∷ seen) rows) row.0))
     other true e more = ap (λ b. is_some (cond b (Some r.1) (name_of_entry (first_rows (r.0 ∷ seen) rows) row.0))) e
     other false e more = ap (λ b. is_some (cond b (Some r.1) (name_of_entry (first_rows (r.0 ∷ seen) rows) row.0))) e ∙ more e
+
     by : (is_among row.0 seen ≡ false → IsSome (name_of_entry (first_rows seen rows) row.0)) → (is_among row.0 (r.0 ∷ seen) ≡ false → IsSome (name_of_entry (first_rows (r.0 ∷ seen) rows) row.0))
         → (b : Bool) → is_among r.0 seen ≡ b → IsSome (name_of_entry (first_rows seen (r ∷ rows)) row.0)
     by old new true e = ap (λ b. is_some (name_of_entry (cond b (first_rows seen rows) (r ∷ first_rows (r.0 ∷ seen) rows)) row.0)) e ∙ old free

@@ -19,8 +19,8 @@ use Rattle.hc_words.specs.declared.job.Job.{Job}
 use Rattle.hc_words.specs.Jobs.{HasNoJob, IsJob}
 use Rattle.hc_signal.specs.Tree.{Tree}
 use Rattle.hc_lang.specs.declared.tree.Design.{Design}
-use Rattle.hc_lang.specs.Reads.{Answers, AtMostOne, FirstFault, NotBoth, OneFault, ParsesTo}
-use Rattle.hc_elab.specs.Elaborates.{DesignElaborates, Elaborated, ElaboratedCall}
+use Rattle.hc_lang.specs.Reads.{Answers, AtMostOne, NotBoth, OneFault, ParsesTo}
+use Rattle.hc_elab.specs.Elaborates.{DesignElaborates, Elaborated}
 use Rattle.hc_modules.specs.VerilogText.{IsVerilog}
 use Rattle.hc_names.specs.Naming.{NamedTree}
 use Rattle.hc_cli.specs.declared.prepared.Prepared.{Prepared}

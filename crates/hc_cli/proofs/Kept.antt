@@ -1,6 +1,6 @@
 -- The history of an elaboration is that of its calls.
 use Rattle.std.proofs.Common.{◌≡◌, ◌≤◌, ◌<◌, ◌+◌, ℕ, zero, suc, Bool, true, false, cond, ◌==◌, List, [], ◌∷◌, ◌++◌, map, length, take, refl, sym, ap, ap₂, subst, ◌∙◌, arith}
-use Rattle.std.specs.Prelude.{Some, slice_get, count_by, ◌↔◌}
+use Rattle.std.specs.Prelude.{Some, slice_get, ◌↔◌}
 use Rattle.std.proofs.lemmas.Bool.Decides.{Decides-eqb}
 use Rattle.std.proofs.lemmas.List.Sums.{sum_by-cons}
 use Rattle.std.proofs.lemmas.Option.{slice_get_within}
@@ -16,7 +16,7 @@ use Rattle.hc_dbstate.specs.declared.turns.Turn.{Turn}
 use Rattle.hc_dbstate.specs.Elaboration.{CallView, IsElaboration, walk}
 use Rattle.hc_dbstate.specs.History.{History, IsLegal, IsLegalTurn, fresh_turns, log}
 use Rattle.hc_dbstate.specs.Unfolding.{unfolding_of}
-use Rattle.hc_dbstate.proofs.Triples.{NameEntries, legal_names, log_is, some_at, some_once, triples, triples_step}
+use Rattle.hc_dbstate.proofs.Triples.{NameEntries, legal_names, log_is, some_at, triples, triples_step}
 use Rattle.hc_elab.specs.Elaborates.{Elaborated, ElaboratedCall}
 use Rattle.hc_elab.specs.Hierarchies.{AreCallsFor, IsCallFor, IsHierarchyFor, LogsWalk}
 use Rattle.hc_cli.specs.Histories.{AreTurnsOf, IsEntryOf, IsHistoryOf, IsOnce, no_history}

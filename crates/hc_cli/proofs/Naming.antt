@@ -1,7 +1,7 @@
 -- Each call of a hierarchy has a name, and its calls are named as those of the elaborated design.
-use Rattle.std.proofs.Common.{◌≡◌, ℕ, Bool, true, false, cond, ◌||◌, nat_eq, List, [], ◌∷◌, map, refl, ap, ◌∙◌, sym}
+use Rattle.std.proofs.Common.{◌≡◌, ℕ, Bool, true, false, cond, ◌||◌, nat_eq, List, [], ◌∷◌, map, refl, ap, ◌∙◌}
 use Rattle.std.proofs.lemmas.Bool.Decides.{Decides-eqb}
-use Rattle.std.specs.Prelude.{IsSome, Some, None, is_some}
+use Rattle.std.specs.Prelude.{IsSome, Some, is_some}
 use Rattle.std.specs.List.{zip}
 use Rattle.hc_signal.specs.Member.{Has, first, later}
 use Rattle.hc_canon.specs.declared.form.EntryId.{EntryId}

@@ -8,7 +8,7 @@ use Rattle.hc_dbstate.specs.History.{History}
 use Rattle.hc_cli.specs.declared.verilog.Verilog.{Verilog}
 use Rattle.hc_cli.specs.declared.prepared.Prepared.{Prepared}
 use Rattle.hc_cli.specs.declared.prepared.Prepared.TheVariants as is
-use Rattle.hc_cli.specs.Due.{Due, IsDesignDue, IsDue, IsTextDue, not_built, refusal, told, verilog}
+use Rattle.hc_cli.specs.Due.{Due, IsDesignDue, IsDue, IsTextDue, refusal, told}
 use Rattle.hc_cli.specs.Histories.{IsHistoryOf, no_history}
 
 -- the history behind a Verilog text

@@ -1,4 +1,4 @@
-use Rattle.std.proofs.Common.{refl, map, string_bytes, Global}
+use Rattle.std.proofs.Common.{map, string_bytes, Global}
 use Rattle.std.proofs.lemmas.Result.{IfOk-weaker}
 use Rattle.hc_cli.proofs.DueLaws.{asked_left, refused_left}
 use Rattle.hc_cli.proofs.run.prepare.Goals as goal

@@ -1,0 +1,5 @@
+circuit add8
+input a 8
+input b 8
+output s 8
+top add8

@@ -25,6 +25,7 @@ use Rattle.hc_modules.specs.VerilogText.{IsVerilog}
 use Rattle.hc_names.specs.Naming.{NamedTree}
 use Rattle.hc_cli.specs.declared.prepared.Prepared.{Prepared}
 use Rattle.hc_cli.specs.declared.prepared.Prepared.TheVariants as is
+use Rattle.hc_cli.specs.Clauses.{EndsInput}
 use Rattle.hc_cli.specs.Due.{Due, IsDesignDue, IsDue, IsTextDue, asked, benched, broken, faulty, named_calls, not_built, operation, parsed, refusal, refused, text_fault, told, too_long, verilog, whole}
 use Rattle.hc_cli.specs.Prepared.{IsToldOf, Serves, ServesDesign, ServesInput, ServesLeft, ServesText, history_behind}
 use Rattle.hc_cli.proofs.Kept.{no_calls}
@@ -56,6 +57,10 @@ long_input n (Some text) p long serves = let s = serves text long in (text, s.0,
 
 pub long_left : (left : Option (List ℕ)) (p : Prepared) → LongerThan left 4194304 → ((text : List ℕ) → 4194304 < length text → ServesText text p) → ServesInput left p
 long_left left p long serves = long_input 4194304 left p long serves
+
+pub long_ends : (old new : Option (List ℕ)) → LongerThan old 4194304 → EndsInput old new
+long_ends None new long = tt
+long_ends (Some text) new long = λ fits. absurd (omega (arith, long, fits))
 
 pub text_input : (left : Option (List ℕ)) (text : List ℕ) (p : Prepared) → Holds left text → ServesText text p → ServesInput left p
 text_input left text p holds s = (text, s.0, holds, s.1, s.2)

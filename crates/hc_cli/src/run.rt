@@ -1,4 +1,4 @@
-ghost use Rattle.std.specs.Prelude.{◌≡◌, ◌≢◌, ◌<◌, ◌≤◌, ◌⊎◌, ℕ, true, false, List, [], length, map, string_bytes, IfOk, OnOk, IsErrOf};
+ghost use Rattle.std.specs.Prelude.{◌≡◌, ◌≢◌, ◌<◌, ◌≤◌, ◌⊎◌, ℕ, true, false, List, [], length, map, string_bytes, IfOk, OnErr, OnOk, IsErrOf};
 ghost use Rattle.std.specs.Io.KnownBytes.{Keeps};
 ghost use Rattle.hc_outside.specs.Causes.{Rose};
 ghost use Rattle.hc_words.specs.Jobs.{HasNoJob};
@@ -18,7 +18,7 @@ use hc_elab::{designs_elaborate_once, elab_one};
 use hc_fault::{Fault, FaultKind, NoMemory, Refused};
 use hc_lang::{Design, parse, texts_have_one_answer};
 use hc_modules::texts_are_single;
-use hc_outside::{ReadStop, Sink, Source, read_all};
+use hc_outside::{Failed, ReadStop, Sink, Source, read_all};
 use hc_words::{WordStop, read_words};
 use std::alloc::Global;
 
@@ -164,6 +164,21 @@ fn ended(alloc: Global, prepared: Prepared) -> Outcome
     }
 }
 
+/// The end after the write: status 4 where it failed.
+fn finished(sent: Result<(), Failed>, outcome: Outcome) -> Outcome
+    ensures sent { OnOk sent (result.status ≡ outcome.status) }
+    ensures failed { OnErr sent (result.status ≡ 4) }
+    ensures history { history_of result ≡ history_of outcome }
+{
+    match sent {
+        Ok(()) => outcome,
+        Err(_) => Outcome {
+            status: 4,
+            ..outcome
+        },
+    }
+}
+
 /// Reads the words and then all of the input, and writes what is due for them. Refused words leave the source alone.
 /// All memory is taken before the first byte is written. It returns for every input.
 pub fn run_one<S: Source, K: Sink>(
@@ -200,14 +215,7 @@ pub fn run_one<S: Source, K: Sink>(
         Err(Stop::NoMemory) => return empty(alloc, 5),
     };
     let sent = send(&prepared, output);
-    let outcome = ended(alloc, prepared);
-    match sent {
-        Ok(()) => outcome,
-        Err(_) => Outcome {
-            status: 4,
-            ..outcome
-        },
-    }
+    finished(sent, ended(alloc, prepared))
 }
 
 /// For each list of words and each text at most one status, one output and one list of calls are due.

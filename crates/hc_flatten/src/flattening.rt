@@ -1,0 +1,61 @@
+ghost use Rattle.std.specs.Prelude.{◌≡◌, ¬◌, [], IfOk};
+ghost use Rattle.hc_dbstate.specs.Elaboration.{IsElaboration};
+ghost use Rattle.hc_dbstate.specs.Unfolding.{unfolding_of};
+ghost use Rattle.hc_signal.specs.Checked.{IsChecked};
+ghost use Rattle.hc_signal.specs.FlatGraph.{IsFlat};
+ghost use Rattle.hc_signal.specs.Occurrences.{HasCombLoop};
+ghost use Rattle.hc_signal.specs.Tree.{leaf};
+
+use crate::layout::{Laid, lay};
+use crate::place::Place;
+use crate::size::sizes_to;
+use hc_canon::ports_copy;
+use hc_dbstate::{DbState, Hier};
+use hc_fault::{ItemList, NoMemory};
+use hc_signal::{Circuit, NodeId};
+use std::alloc::Global;
+
+/// The same nodes.
+fn ids_copy(alloc: Global, ids: &[NodeId]) -> Result<ItemList<NodeId>, NoMemory>
+    ensures { IfOk result (λ made. made ≡ ids.now) }
+{
+    let mut made = Vec::new(alloc);
+    'ids: for id in ids {
+        made.push(*id)?;
+    }
+    Ok(ItemList::from_vec(made))
+}
+
+/// The circuit without instances that stands for the hierarchy. An input of an instance is its connection, and an output
+/// of an instance is the wire of the inner output; labels are kept. It keeps the rules of a checked circuit and has no
+/// combinational loop. It is refused only for want of memory.
+pub fn flatten(alloc: Global, db: &DbState, hier: &Hier) -> Result<Circuit, NoMemory>
+    requires { IsElaboration db.now.entries hier.now }
+    ensures flat { IfOk result (λ c. IsFlat (unfolding_of db.now.entries hier.now.entry) c) }
+    ensures instances { IfOk result (λ c. c.instances ≡ []) }
+    ensures checked { IfOk result (λ c. IsChecked c) }
+    ensures no_loop { IfOk result (λ c. ¬ HasCombLoop (leaf c)) }
+{
+    let sizes = sizes_to(alloc, db, hier.entry)?;
+    let mut laid = Laid {
+        nodes: Vec::new(alloc),
+        memories: Vec::new(alloc),
+    };
+    let top = Place {
+        nodes: 0,
+        memories: 0,
+        inputs: None,
+    };
+    lay(alloc, db, sizes.as_slice(), hier.entry, &top, &mut laid)?;
+    let circuit = db.get(hier.entry).circuit();
+    let ports = ports_copy(alloc, circuit.ports())?;
+    let outputs = ids_copy(alloc, circuit.outputs())?;
+    let Laid { nodes, memories } = laid;
+    Ok(Circuit::of_parts(
+        ports,
+        outputs,
+        ItemList::from_vec(nodes),
+        ItemList::from_vec(memories),
+        ItemList::new(alloc),
+    ))
+}

@@ -39,6 +39,6 @@ pub record IsAfter (sizes : List (Option Size)) (start : Size) (kid : EntryId) (
   pub memories : end.memories ≡ start.memories + size.memories
 
 -- what is before instance i, where so much is before the first instance
-pub record Reaches (nodes memories : ℕ) (kids : ℕ → Tree) (i : ℕ) (end : Size) : Type 0 where
-  pub nodes : end.nodes ≡ nodes + sum_to (λ j. total nodes_in (kids j)) i
-  pub memories : end.memories ≡ memories + sum_to (λ j. total memories_in (kids j)) i
+pub record Reaches (node memory : ℕ) (kids : ℕ → Tree) (i : ℕ) (end : Size) : Type 0 where
+  pub nodes : end.nodes ≡ node + sum_to (λ j. total nodes_in (kids j)) i
+  pub memories : end.memories ≡ memory + sum_to (λ j. total memories_in (kids j)) i

@@ -1,5 +1,5 @@
-ghost use Rattle.std.specs.Prelude.{◌≡◌, ¬◌, [], IfOk};
-ghost use Rattle.hc_dbstate.specs.Elaboration.{IsElaboration};
+ghost use Rattle.std.specs.Prelude.{◌≡◌, [], IfOk};
+ghost use Rattle.hc_dbstate.specs.Elaboration.{IsElaboration, hier_view};
 ghost use Rattle.hc_dbstate.specs.Unfolding.{unfolding_of};
 ghost use Rattle.hc_signal.specs.Checked.{IsChecked};
 ghost use Rattle.hc_signal.specs.FlatGraph.{IsFlat};
@@ -31,7 +31,7 @@ fn ids_copy(alloc: Global, ids: &[NodeId]) -> Result<ItemList<NodeId>, NoMemory>
 /// combinational loop. It is refused only for want of memory.
 pub fn flatten(alloc: Global, db: &DbState, hier: &Hier) -> Result<Circuit, NoMemory>
     requires { IsElaboration db.now.entries hier.now }
-    ensures flat { IfOk result (λ c. IsFlat (unfolding_of db.now.entries hier.now.entry) c) }
+    ensures flat { IfOk result (λ c. IsFlat (unfolding_of db.now.entries (hier_view hier.now).own.entry) c) }
     ensures instances { IfOk result (λ c. c.instances ≡ []) }
     ensures checked { IfOk result (λ c. IsChecked c) }
     ensures no_loop { IfOk result (λ c. ¬ HasCombLoop (leaf c)) }

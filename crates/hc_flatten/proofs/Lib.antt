@@ -1,0 +1,4 @@
+pub mod Kids
+pub mod Starts
+pub mod Rows
+pub mod Laying

@@ -34,3 +34,6 @@ module _ (h : History) (legal : IsLegal h) where
 -- the element at a place of a list that is equal to another one
 pub read_at : {X : Type 0} (xs ys : List X) (n i : ℕ) (d : X) → ys ≡ xs → length xs ≡ n → i < n → slice_get xs i ≡ Some (get_or ys i d)
 read_at xs ys n i d q m b = subst (λ l. slice_get xs i ≡ Some (get_or l i d)) (sym q) (slice_get-get_or xs i d (subst (λ k. i < k) (sym m) b))
+
+pub read_here : {X : Type 0} (xs ys : List X) (i : ℕ) (d : X) → ys ≡ xs → i < length ys → slice_get xs i ≡ Some (get_or ys i d)
+read_here xs ys i d q b = subst (λ l. slice_get l i ≡ Some (get_or ys i d)) q (slice_get-get_or ys i d b)

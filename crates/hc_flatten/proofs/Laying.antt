@@ -77,3 +77,6 @@ module _ (h : History) (legal : IsLegal h) (entry : EntryId) (form : FormView) (
       (joined_same (λ i. kid_memories h.entries (slice_get kids i)) (λ i. flat_memories (kid_place p form.circuit (kid_trees h.entries form) i) (kid_trees h.entries form i)) (length form.circuit.instances)
       (kid_laid_at flat_memories (kid_memories h.entries) (λ _. refl)))
       ∙ ap (λ t. old ++ flat_memories p t) (sym (unfolds h legal entry form at))
+
+pub no_more : {X : Type 0} (xs : List X) (i : ℕ) → i ≤ length xs → length xs ≤ i → i ≡ length xs
+no_more xs i a b = omega (arith, a, b)

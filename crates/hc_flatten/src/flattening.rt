@@ -8,9 +8,9 @@ ghost use Rattle.hc_signal.specs.Tree.{leaf};
 
 use crate::layout::{Laid, lay};
 use crate::place::Place;
-use crate::size::sizes_to;
+use crate::size::entry_sizes;
 use hc_canon::ports_copy;
-use hc_dbstate::{DbState, Hier};
+use hc_dbstate::{DbState, Hier, walks_are_whole};
 use hc_fault::{ItemList, NoMemory};
 use hc_signal::{Circuit, NodeId};
 use std::alloc::Global;
@@ -36,7 +36,9 @@ pub fn flatten(alloc: Global, db: &DbState, hier: &Hier) -> Result<Circuit, NoMe
     ensures checked { IfOk result (λ c. IsChecked c) }
     ensures no_loop { IfOk result (λ c. ¬ HasCombLoop (leaf c)) }
 {
-    let sizes = sizes_to(alloc, db, hier.entry)?;
+    walks_are_whole();
+    db.legal();
+    let sizes = entry_sizes(alloc, db)?;
     let mut laid = Laid {
         nodes: Vec::new(alloc),
         memories: Vec::new(alloc),

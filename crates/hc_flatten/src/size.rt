@@ -1,4 +1,4 @@
-ghost use Rattle.std.specs.Prelude.{◌≡◌, ◌+◌, ◌<◌, length, slice_get, IfOk, IfSome, Some};
+ghost use Rattle.std.specs.Prelude.{◌≡◌, ◌+◌, length, slice_get, IfOk, IfSome, Some};
 ghost use Rattle.hc_dbstate.specs.Unfolding.{tree_of, unfolding_of};
 ghost use Rattle.hc_flatten.specs.Sizes.{AreSizes, HasSize, IsAfter, Reaches};
 
@@ -76,15 +76,14 @@ fn form_size(db: &DbState, form: &Form, sizes: &[Option<Size>]) -> Option<Size>
     Some(sum)
 }
 
-/// The sizes of the entries up to this one.
-pub fn sizes_to(alloc: Global, db: &DbState, last: EntryId) -> Result<Vec<Option<Size>>, NoMemory>
-    requires { last.0 < length db.now.entries }
+/// The sizes of all entries.
+pub fn entry_sizes(alloc: Global, db: &DbState) -> Result<Vec<Option<Size>>, NoMemory>
     ensures { IfOk result (λ sizes. AreSizes db.now.entries sizes.items) }
 {
     db.legal();
     unfoldings_are_of_kids();
     let mut sizes = Vec::new(alloc);
-    'entries: for k in 0..=last.0 {
+    'entries: for k in 0..db.len() {
         let size = form_size(db, db.get(EntryId(k)), sizes.as_slice());
         sizes.push(size)?;
     }

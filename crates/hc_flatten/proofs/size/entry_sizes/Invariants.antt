@@ -1,6 +1,6 @@
 use Rattle.std.proofs.Common.{◌≡◌, length}
 use Rattle.hc_flatten.specs.Sizes.{AreSizes}
-use Rattle.hc_flatten.proofs.size.sizes_to.Given as goal
+use Rattle.hc_flatten.proofs.size.entry_sizes.Given as goal
 
 abbrev pub invariant-entries : goal.invariant-entries
 invariant-entries l = record {

@@ -2,3 +2,8 @@ pub mod Kids
 pub mod Starts
 pub mod Rows
 pub mod Laying
+pub mod Blocks
+pub mod Good
+pub mod Reaches
+pub mod Numbers
+pub mod Flat

@@ -2,8 +2,10 @@
 #![tactic(auto)]
 
 mod flattening;
+mod laws;
 mod layout;
 mod place;
 mod size;
 
 pub use flattening::flatten;
+pub use laws::scratch;

@@ -7,3 +7,5 @@ pub mod Good
 pub mod Reaches
 pub mod Numbers
 pub mod Flat
+pub mod Passing
+pub mod Settled

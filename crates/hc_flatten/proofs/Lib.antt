@@ -9,3 +9,7 @@ pub mod Numbers
 pub mod Flat
 pub mod Passing
 pub mod Settled
+pub mod Back
+pub mod Elaborated
+pub mod Transfer
+pub mod Lawfully

@@ -109,13 +109,24 @@ module _ (t : Tree) (w : IsGood t) where
       ∙ row_laid t path n row r e
       ∙ ap Some (kept_row (place_at t path) (numbers_at t path) row false (passed_same t path row.node ∙ f))
 
+  own_outputs : (ids : List NodeId) → ((id : NodeId) → Has ids id → Has (graph t).outputs id) → ids ≡ map (id_by (within (at t) [])) ids
+  own_outputs [] h = refl
+  own_outputs (id ∷ ids) h =
+      let x : (row : NodeRow) × (driver : Option NodeId) × (slice_get (graph t).nodes id.0 ≡ Some row) × (row.node ≡ Wire driver) × (row.label ≡ None) = (law_at [] tt).wires id (h id first) in
+      let n : id.0 ≡ (numbers_at t []).node id.0 = (let z : 0 + id.0 ≡ id.0 = omega arith in sym z) ∙ sym (flat_number t [] id.0 x.0 x.2 (ap (is_port_alias []) x.3)) in
+      ap (λ k. record { 0 = k } ∷ ids) n ∙ ap (λ l. id_by (within (at t) []) id ∷ l) (own_outputs ids (λ k g. h k (later g)))
+
+  -- the outputs of the top keep their numbers
+  pub top_outputs : (graph t).outputs ≡ map (id_by (within (at t) [])) (graph t).outputs
+  top_outputs = own_outputs (graph t).outputs (λ id h. h)
+
   pub is_flat : IsFlat t (flat_graph t)
   is_flat = record {
     at = at t;
     node_back = λ k. occurrence_or (slice_get (laid node_spots [] top t) k);
     mem_back = λ k. occurrence_or (slice_get (laid memory_spots [] top t) k);
     ports = refl;
-    outputs = own_outputs (graph t).outputs (λ id h. h);
+    outputs = top_outputs;
     instances = refl;
     down = λ path n i port m r y o. output_node path n i port m (there t w (i ∷ path) (step_reached t (step.down port y o) (flat_reached t r)).0) y o;
     up = λ path n i port m r y o. input_node path n i port m y o;
@@ -141,10 +152,3 @@ module _ (t : Tree) (w : IsGood t) where
           let a : IsThere t path = there t w path f.0 in
           let x : HasRow (graph_at t path) (mem m) = reached_row (graph_at t path) (law_at path a) f.1 in
           (x.0, x.1, slice_get_within _ m x.0 x.1, a)
-
-      own_outputs : (ids : List NodeId) → ((id : NodeId) → Has ids id → Has (graph t).outputs id) → ids ≡ map (id_by (within (at t) [])) ids
-      own_outputs [] h = refl
-      own_outputs (id ∷ ids) h =
-          let x : (row : NodeRow) × (driver : Option NodeId) × (slice_get (graph t).nodes id.0 ≡ Some row) × (row.node ≡ Wire driver) × (row.label ≡ None) = (law_at [] tt).wires id (h id first) in
-          let n : id.0 ≡ (numbers_at t []).node id.0 = (let z : 0 + id.0 ≡ id.0 = omega arith in sym z) ∙ sym (flat_number t [] id.0 x.0 x.2 (ap (is_port_alias []) x.3)) in
-          ap (λ k. record { 0 = k } ∷ ids) n ∙ ap (λ l. id_by (within (at t) []) id ∷ l) (own_outputs ids (λ k g. h k (later g)))

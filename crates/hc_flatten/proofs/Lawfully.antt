@@ -16,7 +16,6 @@ use Rattle.hc_signal.specs.Lawful.{IsLawful, IsLawfulNode, IsLawfulMemory, HasWi
 use Rattle.hc_signal.specs.Renumber.{Renumbering, id_by, node_by, row_by, memory_by}
 use Rattle.hc_signal.specs.Tree.{Tree, graph}
 use Rattle.hc_signal.specs.Occurrences.{tree_at, graph_at, is_port_alias}
-use Rattle.hc_signal.specs.FlatGraph.{IsFlat}
 use Rattle.hc_walk.proofs.Members.{has_slice}
 use Rattle.hc_canon.proofs.LaidOut.{has_index}
 use Rattle.hc_dbstate.proofs.Triples.{some_once}
@@ -26,7 +25,7 @@ use Rattle.hc_flatten.specs.Flattened.{passes_on, unread, flat_row, own_nodes, o
 use Rattle.hc_flatten.proofs.Blocks.{place_at, IsThere, IsFrom, laid_from, laid, nodes_are_laid, memories_are_laid}
 use Rattle.hc_flatten.proofs.Good.{IsGood}
 use Rattle.hc_flatten.proofs.Numbers.{numbers_at, flat_number, memory_number, passed_same}
-use Rattle.hc_flatten.proofs.Flat.{row_of_flat, memory_laid, kept_row, output_node, input_node, is_flat}
+use Rattle.hc_flatten.proofs.Flat.{row_of_flat, memory_laid, kept_row, output_node, input_node, top_outputs}
 use Rattle.hc_flatten.proofs.Passing.{alias_kind}
 use Rattle.hc_flatten.proofs.Settled.{law, inner_output, outer_input}
 use Rattle.hc_flatten.proofs.Transfer.{node_to, memory_to, widths_to}
@@ -211,7 +210,7 @@ module _ (t : Tree) (w : IsGood t) where
         nodes = rows;
         memories = memory_rows;
         instances = λ i h. elim h [ ];
-        outputs = subst (λ ids. HaveWidthsOf flat ids flat.ports.outputs) (sym (is_flat t w).outputs) (widths_to (new []) (graph t) flat (width_at [] tt) (memory_at [] tt) (graph t).outputs _ l.outputs);
+        outputs = subst (λ ids. HaveWidthsOf flat ids flat.ports.outputs) (sym (top_outputs t w)) (widths_to (new []) (graph t) flat (width_at [] tt) (memory_at [] tt) (graph t).outputs _ l.outputs);
         wires = λ id h. (let x : (row : NodeRow) × (driver : Option NodeId) × (slice_get (graph t).nodes id.0 ≡ Some row) × (row.node ≡ Wire driver) × (row.label ≡ None) = l.wires id h in
             (row_by (new []) x.0, option_map (id_by (new [])) x.1, top_number id.0 x.0 x.2 (ap (is_port_alias []) x.3), ap (node_by (new [])) x.3, x.4));
         own_wire = l.own_wire;

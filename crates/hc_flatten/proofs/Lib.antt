@@ -13,3 +13,4 @@ pub mod Back
 pub mod Elaborated
 pub mod Transfer
 pub mod Lawfully
+pub mod Flattens

@@ -8,7 +8,11 @@ use Rattle.hc_signal.specs.declared.signal.Memory.{Memory}
 use Rattle.hc_signal.specs.declared.signal.Instance.{Instance}
 use Rattle.hc_signal.specs.Graph.{Graph}
 use Rattle.hc_signal.specs.Renumber.{Renumbering, id_by, row_by, memory_by}
-use Rattle.hc_signal.specs.Tree.{Tree, none, tree, graph}
+use Rattle.hc_signal.specs.Tree.{Tree, none, tree, graph, leaf}
+use Rattle.hc_signal.specs.Lawful.{IsLawful}
+use Rattle.hc_signal.specs.Checked.{IsChecked}
+use Rattle.hc_signal.specs.FlatGraph.{IsFlat}
+use Rattle.hc_signal.specs.Occurrences.{HasCombLoop}
 use Rattle.hc_canon.specs.Numbering.{count_from}
 use Rattle.hc_canon.specs.Numbers.{by_tables}
 use Rattle.hc_canon.specs.declared.form.EntryId.{EntryId}
@@ -129,3 +133,11 @@ pub record IsKid (form : FormView) (start : Size) (r : Renumbering) (i : ℕ) (k
 pub record AreKidsAt (form : FormView) (starts : List Size) (r : Renumbering) (kids : List Kid) : Type 0 where
   pub many : length kids ≡ length starts
   pub each : (i : ℕ) (start : Size) (kid : Kid) → slice_get starts i ≡ Some start → slice_get kids i ≡ Some kid → IsKid form start r i kid
+
+-- all that is said of a flattened circuit
+pub record IsFlattened (t : Tree) (g : Graph) : Type 0 where
+  pub lawful : IsLawful g
+  pub flat : IsFlat t g
+  pub instances : g.instances ≡ []
+  pub checked : IsChecked g
+  pub no_loop : ¬ HasCombLoop (leaf g)

@@ -1,4 +1,5 @@
-ghost use Rattle.std.specs.Prelude.{◌≡◌, [], IfOk};
+ghost use Rattle.std.specs.Prelude.{◌≡◌, ◌<◌, ◌≤◌, [], length, IfOk};
+ghost use Rattle.hc_flatten.specs.Flattened.{IsFlattened, flat_memories, flat_nodes, top};
 ghost use Rattle.hc_dbstate.specs.Elaboration.{IsElaboration, hier_view};
 ghost use Rattle.hc_dbstate.specs.Unfolding.{unfolding_of};
 ghost use Rattle.hc_signal.specs.Checked.{IsChecked};
@@ -9,7 +10,7 @@ ghost use Rattle.hc_signal.specs.Tree.{leaf};
 use crate::layout::{Laid, lay};
 use crate::place::Place;
 use crate::size::entry_sizes;
-use hc_canon::ports_copy;
+use hc_canon::{EntryId, ports_copy};
 use hc_dbstate::{DbState, Hier, walks_are_whole};
 use hc_fault::{ItemList, NoMemory};
 use hc_signal::{Circuit, NodeId};
@@ -26,18 +27,13 @@ fn ids_copy(alloc: Global, ids: &[NodeId]) -> Result<ItemList<NodeId>, NoMemory>
     Ok(ItemList::from_vec(made))
 }
 
-/// The circuit without instances that stands for the hierarchy. An input of an instance is its connection, and an output
-/// of an instance is the wire of the inner output; labels are kept. It keeps the rules of a checked circuit and has no
-/// combinational loop. It is refused only for want of memory.
-pub fn flatten(alloc: Global, db: &DbState, hier: &Hier) -> Result<Circuit, NoMemory>
-    requires { IsElaboration db.now.entries hier.now }
-    ensures flat { IfOk result (λ c. IsFlat (unfolding_of db.now.entries (hier_view hier.now).own.entry) c) }
-    ensures instances { IfOk result (λ c. c.instances ≡ []) }
-    ensures checked { IfOk result (λ c. IsChecked c) }
-    ensures no_loop { IfOk result (λ c. ¬ HasCombLoop (leaf c)) }
+/// Lays an entry with all that stands below it.
+fn lay_top(alloc: Global, db: &DbState, entry: EntryId) -> Result<Laid, NoMemory>
+    requires { entry.0 < length db.now.entries }
+    ensures nodes { IfOk result (λ laid. laid.nodes.items ≡ flat_nodes top (unfolding_of db.now.entries entry)) }
+    ensures memories { IfOk result (λ laid. laid.memories.items ≡ flat_memories top (unfolding_of db.now.entries entry)) }
+    ensures few { IfOk result (λ laid. (length laid.nodes.items ≤ 4294967296) × (length laid.memories.items ≤ 4294967296)) }
 {
-    walks_are_whole();
-    db.legal();
     let sizes = entry_sizes(alloc, db)?;
     let mut laid = Laid {
         nodes: Vec::new(alloc),
@@ -48,11 +44,24 @@ pub fn flatten(alloc: Global, db: &DbState, hier: &Hier) -> Result<Circuit, NoMe
         memories: 0,
         inputs: None,
     };
-    lay(alloc, db, sizes.as_slice(), hier.entry, &top, &mut laid)?;
+    lay(alloc, db, sizes.as_slice(), entry, &top, &mut laid)?;
+    if laid.nodes.len() > 4294967296 || laid.memories.len() > 4294967296 {
+        return Err(NoMemory);
+    }
+    Ok(laid)
+}
+
+/// The flattened circuit.
+fn flat_circuit(alloc: Global, db: &DbState, hier: &Hier) -> Result<Circuit, NoMemory>
+    requires { IsElaboration db.now.entries hier.now }
+    ensures { IfOk result (IsFlattened (unfolding_of db.now.entries (hier_view hier.now).own.entry)) }
+{
+    walks_are_whole();
+    db.legal();
+    let Laid { nodes, memories } = lay_top(alloc, db, hier.entry)?;
     let circuit = db.get(hier.entry).circuit();
     let ports = ports_copy(alloc, circuit.ports())?;
     let outputs = ids_copy(alloc, circuit.outputs())?;
-    let Laid { nodes, memories } = laid;
     Ok(Circuit::of_parts(
         ports,
         outputs,
@@ -60,4 +69,17 @@ pub fn flatten(alloc: Global, db: &DbState, hier: &Hier) -> Result<Circuit, NoMe
         ItemList::from_vec(memories),
         ItemList::new(alloc),
     ))
+}
+
+/// The circuit without instances that stands for the hierarchy. An input of an instance is its connection, and an output
+/// of an instance is the wire of the inner output; labels are kept. It keeps the rules of a checked circuit and has no
+/// combinational loop. It is refused only for want of memory.
+pub fn flatten(alloc: Global, db: &DbState, hier: &Hier) -> Result<Circuit, NoMemory>
+    requires { IsElaboration db.now.entries hier.now }
+    ensures flat { IfOk result (λ c. IsFlat (unfolding_of db.now.entries (hier_view hier.now).own.entry) c) }
+    ensures instances { IfOk result (λ c. c.instances ≡ []) }
+    ensures checked { IfOk result (λ c. IsChecked c) }
+    ensures no_loop { IfOk result (λ c. ¬ HasCombLoop (leaf c)) }
+{
+    flat_circuit(alloc, db, hier)
 }

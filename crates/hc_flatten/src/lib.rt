@@ -2,10 +2,8 @@
 #![tactic(auto)]
 
 mod flattening;
-mod laws;
 mod layout;
 mod place;
 mod size;
 
 pub use flattening::flatten;
-pub use laws::scratch;

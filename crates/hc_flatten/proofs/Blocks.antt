@@ -59,7 +59,7 @@ joined_from f (suc n) k x e = elim (slice_cases (joined f n) (f n) k x e) [
 ]
 
 module _ {X : Type 0} (own : Block X) (count : Graph → ℕ) (long : (path : List ℕ) (p : Place) (g : Graph) (kids : ℕ → Tree) → length (own path p g kids) ≡ count g) (base : Place → ℕ)
-  (bases : (p : Place) (g : Graph) (kids : ℕ → Tree) (i : ℕ) → base (kid_place p g kids i) ≡ base p + count g + sum_to (λ j. total count (kids j)) i) (zeros : base top ≡ 0) (nothing : count empty ≡ 0) where
+    (bases : (p : Place) (g : Graph) (kids : ℕ → Tree) (i : ℕ) → base (kid_place p g kids i) ≡ base p + count g + sum_to (λ j. total count (kids j)) i) (zeros : base top ≡ 0) (nothing : count empty ≡ 0) where
   pub laid_length : (t : Tree) (path : List ℕ) (p : Place) → length (laid own path p t) ≡ total count t
   laid_length none path p = refl
   laid_length (tree g kids) path p =
@@ -118,16 +118,16 @@ module _ {X : Type 0} (own : Block X) (count : Graph → ℕ) (long : (path : Li
           number = refl;
         }
         | inr r ↦ (let f : _ = joined_from (λ i. laid own (i ∷ path) (kid_place (place_at t path) g kids i) (kids i)) (length g.instances) r.0 x r.2 in
-          let in_range : f.0 < length (graph_at t path).instances = subst (λ z. f.0 < length (graph z).instances) (sym q) f.2 in
-          let at : slice_get (laid own (f.0 ∷ path) (place_at t (f.0 ∷ path)) (kids f.0)) f.1 ≡ Some x = subst (λ z. slice_get (laid own (f.0 ∷ path) (kid_place (place_at t path) (graph z) (λ j. kid z j) f.0) (kids f.0)) f.1 ≡ Some x) (sym q) f.4 in
-          let w : IsFrom t (base (place_at t (f.0 ∷ path)) + f.1) x = from t (kids f.0) (f.0 ∷ path) (ap (λ z. kid z f.0) q) (there, in_range) f.1 x at in
-          let b : base (place_at t (f.0 ∷ path)) ≡ base (place_at t path) + count g + sum_to (λ j. total count (kids j)) f.0 = bases (place_at t path) (graph_at t path) (λ j. kid (tree_at t path) j) f.0 ∙ ap (λ z. base (place_at t path) + count (graph z) + sum_to (λ j. total count (kid z j)) f.0) q in
-          let s : sum_to (λ j. length (laid own (j ∷ path) (kid_place (place_at t path) g kids j) (kids j))) f.0 ≡ sum_to (λ j. total count (kids j)) f.0 = sum_same _ _ f.0 (λ j. laid_length (kids j) (j ∷ path) (kid_place (place_at t path) g kids j)) in
-          let l : length (own path (place_at t path) g kids) ≡ count g = long path (place_at t path) g kids in
-          let m : k ≡ length (own path (place_at t path) g kids) + r.0 = r.1 in
-          let n : r.0 ≡ sum_to (λ j. length (laid own (j ∷ path) (kid_place (place_at t path) g kids j) (kids j))) f.0 + f.1 = f.3 in
-          let v : base (place_at t (f.0 ∷ path)) + f.1 ≡ base (place_at t path) + k = omega (arith, b, s, l, m, n) in
-          subst (λ y. IsFrom t y x) v w)
+            let in_range : f.0 < length (graph_at t path).instances = subst (λ z. f.0 < length (graph z).instances) (sym q) f.2 in
+            let at : slice_get (laid own (f.0 ∷ path) (place_at t (f.0 ∷ path)) (kids f.0)) f.1 ≡ Some x = subst (λ z. slice_get (laid own (f.0 ∷ path) (kid_place (place_at t path) (graph z) (λ j. kid z j) f.0) (kids f.0)) f.1 ≡ Some x) (sym q) f.4 in
+            let w : IsFrom t (base (place_at t (f.0 ∷ path)) + f.1) x = from t (kids f.0) (f.0 ∷ path) (ap (λ z. kid z f.0) q) (there, in_range) f.1 x at in
+            let b : base (place_at t (f.0 ∷ path)) ≡ base (place_at t path) + count g + sum_to (λ j. total count (kids j)) f.0 = bases (place_at t path) (graph_at t path) (λ j. kid (tree_at t path) j) f.0 ∙ ap (λ z. base (place_at t path) + count (graph z) + sum_to (λ j. total count (kid z j)) f.0) q in
+            let s : sum_to (λ j. length (laid own (j ∷ path) (kid_place (place_at t path) g kids j) (kids j))) f.0 ≡ sum_to (λ j. total count (kids j)) f.0 = sum_same _ _ f.0 (λ j. laid_length (kids j) (j ∷ path) (kid_place (place_at t path) g kids j)) in
+            let l : length (own path (place_at t path) g kids) ≡ count g = long path (place_at t path) g kids in
+            let m : k ≡ length (own path (place_at t path) g kids) + r.0 = r.1 in
+            let n : r.0 ≡ sum_to (λ j. length (laid own (j ∷ path) (kid_place (place_at t path) g kids j) (kids j))) f.0 + f.1 = f.3 in
+            let v : base (place_at t (f.0 ∷ path)) + f.1 ≡ base (place_at t path) + k = omega (arith, b, s, l, m, n) in
+            subst (λ y. IsFrom t y x) v w)
       ]
 
   pub laid_from : (t : Tree) (k : ℕ) (x : X) → slice_get (laid own [] top t) k ≡ Some x → IsFrom t k x

@@ -63,21 +63,24 @@ module _ (h : History) (legal : IsLegal h) (hier : Hier) (over : IsElaboration h
   good_below (suc n) call has b =
       let o : IsCallOver h.entries call = over.calls call has in
       let form : IsForm o.form = legal.forms call.own.entry.0 o.form o.found in
-      subst IsGood (sym (unfolds h legal call.own.entry o.form o.found))
-      (form.lawful, form.checked, λ i it e. (
-          let i_in : i < length o.form.circuit.instances = slice_get_within o.form.circuit.instances i it e in
-          let k : (id : EntryId) × (slice_get o.form.kids i ≡ Some id) = some_at o.form.kids i (subst (λ m. i < m) (sym form.kids) i_in) in
-          let lower : k.0.0 < call.own.entry.0 = kid_below h legal call.own.entry.0 o.form i k.0 o.found k.1 in
-          let there : k.0.0 < length h.entries = kid_known h legal o.form (call.own.entry.0, o.found) i k.0 k.1 in
-          let x : (x : FormView) × (slice_get h.entries k.0.0 ≡ Some x) = some_at h.entries k.0.0 there in
-          let one : 1 ≤ times k.0 o.form.kids = has_times k.0 o.form.kids (has_slice o.form.kids i k.0 k.1) in
-          let le : times k.0 o.form.kids ≤ times k.0 (map entry_of call.kids) = o.kids k.0 in
-          let row : (row : CallRow) × Has call.kids row × (row.entry ≡ k.0) = times_has k.0 call.kids (omega (arith, one, le)) in
-          let other : (other : CallView) × Has (walk hier) other × (other.own ≡ row.0) = kids call row.0 has row.1 in
-          let same : other.0.own.entry ≡ k.0 = ap (λ (r : CallRow). r.entry) other.2 ∙ row.2 in
-          let less : other.0.own.entry.0 < n = (let s : other.0.own.entry.0 ≡ k.0.0 = ap (λ (id : EntryId). id.0) same in omega (arith, s, lower, b)) in
-          let good : IsGood (unfolding_of h.entries k.0) = subst (λ id. IsGood (unfolding_of h.entries id)) same (good_below n other.0 other.1 less) in
-          (ap (λ (g : Graph). g.ports) (kid_graph h legal o.form i k.0 x.0 k.1 x.1) ∙ o.ports i it k.0 x.0 e k.1 x.1, subst IsGood (sym (kid_is h legal o.form i k.0 k.1)) good)))
+      subst IsGood (sym (unfolds h legal call.own.entry o.form o.found)) (
+        form.lawful,
+        form.checked,
+        λ i it e. (
+            let i_in : i < length o.form.circuit.instances = slice_get_within o.form.circuit.instances i it e in
+            let k : (id : EntryId) × (slice_get o.form.kids i ≡ Some id) = some_at o.form.kids i (subst (λ m. i < m) (sym form.kids) i_in) in
+            let lower : k.0.0 < call.own.entry.0 = kid_below h legal call.own.entry.0 o.form i k.0 o.found k.1 in
+            let there : k.0.0 < length h.entries = kid_known h legal o.form (call.own.entry.0, o.found) i k.0 k.1 in
+            let x : (x : FormView) × (slice_get h.entries k.0.0 ≡ Some x) = some_at h.entries k.0.0 there in
+            let one : 1 ≤ times k.0 o.form.kids = has_times k.0 o.form.kids (has_slice o.form.kids i k.0 k.1) in
+            let le : times k.0 o.form.kids ≤ times k.0 (map entry_of call.kids) = o.kids k.0 in
+            let row : (row : CallRow) × Has call.kids row × (row.entry ≡ k.0) = times_has k.0 call.kids (omega (arith, one, le)) in
+            let other : (other : CallView) × Has (walk hier) other × (other.own ≡ row.0) = kids call row.0 has row.1 in
+            let same : other.0.own.entry ≡ k.0 = ap (λ (r : CallRow). r.entry) other.2 ∙ row.2 in
+            let less : other.0.own.entry.0 < n = (let s : other.0.own.entry.0 ≡ k.0.0 = ap (λ (id : EntryId). id.0) same in omega (arith, s, lower, b)) in
+            let good : IsGood (unfolding_of h.entries k.0) = subst (λ id. IsGood (unfolding_of h.entries id)) same (good_below n other.0 other.1 less) in
+            (ap (λ (g : Graph). g.ports) (kid_graph h legal o.form i k.0 x.0 k.1 x.1) ∙ o.ports i it k.0 x.0 e k.1 x.1, subst IsGood (sym (kid_is h legal o.form i k.0 k.1)) good)),
+      )
 
   top_call : (call : CallView) × Has (walk hier) call × (call.own.entry ≡ (hier_view hier).own.entry)
   top_call = (own.1, subst (λ (calls : List CallView). Has calls own.1) (sym own.2) (last_has own.0 own.1), ap (λ (r : CallRow). r.entry) own.3)

@@ -22,9 +22,9 @@ use Rattle.hc_walk.proofs.Members.{has_slice}
 use Rattle.hc_paths.proofs.Composed.{step_reached}
 use Rattle.hc_canon.specs.Numbering.{count_from}
 use Rattle.hc_flatten.specs.declared.place.Place.{Place}
-use Rattle.hc_flatten.specs.Sizes.{nodes_in, memories_in}
+use Rattle.hc_flatten.specs.Sizes.{total, nodes_in, memories_in}
 use Rattle.hc_flatten.specs.Flattened.{number_of, nodes_before, id_or_zero, output_number, numbering, connections, passes_on, unread, flat_row, own_nodes, own_memories, flat_nodes, flat_memories, flat_graph, top}
-use Rattle.hc_flatten.proofs.Blocks.{place_at, IsThere, Block, laid, block_at, nodes_are_laid, memories_are_laid}
+use Rattle.hc_flatten.proofs.Blocks.{place_at, IsThere, Block, laid, laid_length, block_at, nodes_are_laid, memories_are_laid}
 use Rattle.hc_flatten.proofs.Good.{IsGood, lawful_of, good_at, there}
 use Rattle.hc_flatten.proofs.Reaches.{flat_reached}
 use Rattle.hc_flatten.proofs.Numbers.{numbers_at, node_number, counted_at, memory_number, flat_number, passed_same, same_numbers_row}
@@ -68,6 +68,12 @@ memory_laid t path m row r e =
     ap (λ l. slice_get l ((place_at t path).memories + m)) (memories_are_laid t [] top)
     ∙ block_at (λ path. own_memories) memories_in (λ path p g kids. length-map g.memories _) (λ p. p.memories) (λ p g kids i. refl) refl refl t path m _ r
     (slice_get-map (memory_by (numbers_at t path)) (graph_at t path).memories m ∙ ap (option_map (memory_by (numbers_at t path))) e)
+
+pub nodes_length : (t : Tree) → length (flat_nodes top t) ≡ total nodes_in t
+nodes_length t = ap length (nodes_are_laid t [] top) ∙ laid_length (λ path. own_nodes) nodes_in (λ path p g kids. length-map g.nodes _) (λ p. p.nodes) (λ p g kids i. refl) refl refl t [] top
+
+pub memories_length : (t : Tree) → length (flat_memories top t) ≡ total memories_in t
+memories_length t = ap length (memories_are_laid t [] top) ∙ laid_length (λ path. own_memories) memories_in (λ path p g kids. length-map g.memories _) (λ p. p.memories) (λ p g kids i. refl) refl refl t [] top
 
 -- a row that passes nothing on
 pub kept_row : (p : Place) (r : Renumbering) (row : NodeRow) (b : Bool) → passes_on p.inputs row.node ≡ b → flat_row p r row ≡ (if b then unread row else row_by r row)

@@ -1,6 +1,6 @@
 -- What is laid for the top of an elaboration has all that is said of it.
-use Rattle.std.proofs.Common.{◌≡◌, ℕ, ◌<◌, ◌≤◌, List, [], ◌∷◌, ◌++◌, length, refl, sym, ap, subst, ◌∙◌}
-use Rattle.std.specs.Prelude.{slice_get, Some}
+use Rattle.std.proofs.Common.{◌≡◌, ℕ, ◌<◌, ◌≤◌, List, [], ◌∷◌, ◌++◌, length, refl, sym, ap, subst, ◌∙◌, arith}
+use Rattle.std.specs.Prelude.{slice_get, Option, Some}
 use Rattle.hc_signal.specs.Member.{Has}
 use Rattle.hc_signal.specs.declared.signal.Ports.{Ports}
 use Rattle.hc_signal.specs.declared.signal.NodeId.{NodeId}
@@ -22,7 +22,9 @@ use Rattle.hc_dbstate.specs.Elaboration.{CallRow, CallView, IsElaboration, hier_
 use Rattle.hc_dbstate.proofs.Unfolded.{unfolds}
 use Rattle.hc_flatten.specs.Flattened.{IsFlattened, flat_graph, flat_nodes, flat_memories, top}
 use Rattle.hc_flatten.proofs.Good.{IsGood}
-use Rattle.hc_flatten.proofs.Flat.{is_flat}
+use Rattle.hc_flatten.specs.declared.size.Size.{Size}
+use Rattle.hc_flatten.specs.Sizes.{AreSizes, HasSize}
+use Rattle.hc_flatten.proofs.Flat.{is_flat, nodes_length, memories_length}
 use Rattle.hc_flatten.proofs.Back.{checked, loop_back}
 use Rattle.hc_flatten.proofs.Lawfully.{is_lawful}
 use Rattle.hc_flatten.proofs.Elaborated.{top_good, top_no_loop}
@@ -63,3 +65,12 @@ module _ (h : History) (legal : IsLegal h) (hier : Hier) (over : IsElaboration h
       (subst (IsFlattened (unfolding_of h.entries entry)) (sym s)
       (flattened (unfolding_of h.entries entry) (subst (λ i. IsGood (unfolding_of h.entries i)) q (top_good h legal hier over own kids)) (subst (λ i. ¬ HasCombLoop (unfolding_of h.entries i)) q (top_no_loop h legal hier over own kids))
       (subst (λ l. length l ≤ 4294967296) c few_nodes) (subst (λ l. length l ≤ 4294967296) d few_memories)))
+
+-- what has a size of 32 bits fits
+pub few_laid : (entries : List FormView) (sizes : List (Option Size)) (entry : EntryId) (size : Size) (nodes : List NodeRow) (memories : List Memory) → AreSizes entries sizes → slice_get sizes entry.0 ≡ Some (Some size) → size.nodes < 4294967296 → size.memories < 4294967296
+    → nodes ≡ flat_nodes top (unfolding_of entries entry) → memories ≡ flat_memories top (unfolding_of entries entry) → (length nodes ≤ 4294967296) × (length memories ≤ 4294967296)
+few_laid entries sizes entry size nodes memories are at a b p q =
+    let s : HasSize (unfolding_of entries entry) size = are entry.0 size at in
+    let n : length nodes ≡ size.nodes = ap length p ∙ nodes_length (unfolding_of entries entry) ∙ sym s.nodes in
+    let m : length memories ≡ size.memories = ap length q ∙ memories_length (unfolding_of entries entry) ∙ sym s.memories in
+    (omega (arith, n, a), omega (arith, m, b))

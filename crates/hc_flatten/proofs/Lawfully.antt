@@ -152,9 +152,10 @@ module _ (t : Tree) (w : IsGood t) where
 
   read_lawful : (k : ℕ) (row : NodeRow) → IsRead k row → IsWidth row.width × IsLawfulNode flat row.width row.node
   read_lawful k row x =
-      subst (λ (y : NodeRow). IsWidth y.width × IsLawfulNode flat y.width y.node) x.is
-      (((law t w x.path x.there).nodes x.place x.old x.found).0,
-        node_to (new x.path) (graph_at t x.path) flat (width_at x.path x.there) (memory_at x.path x.there) x.old.width x.old.node (ports x.path x.kept) (λ i port q. (let z : true ≡ false = sym (ap (is_port_alias x.path) q) ∙ x.kept in cc)) ((law t w x.path x.there).nodes x.place x.old x.found).1)
+      subst (λ (y : NodeRow). IsWidth y.width × IsLawfulNode flat y.width y.node) x.is (
+        ((law t w x.path x.there).nodes x.place x.old x.found).0,
+        node_to (new x.path) (graph_at t x.path) flat (width_at x.path x.there) (memory_at x.path x.there) x.old.width x.old.node (ports x.path x.kept) (λ i port q. (let z : true ≡ false = sym (ap (is_port_alias x.path) q) ∙ x.kept in cc)) ((law t w x.path x.there).nodes x.place x.old x.found).1,
+      )
     where
       ports : (path : List ℕ) → is_port_alias path x.old.node ≡ false → (port : ℕ) → x.old.node ≡ Input port → (graph_at t path).ports ≡ flat.ports
       ports [] a port q = refl

@@ -40,14 +40,15 @@ pub kids_are : (entries : List FormView) (form : FormView) (p : Place) (starts :
 kids_are entries form p starts r kids s q a = record {
   many = a.many ∙ s.many;
   each = λ i kid e. (let b : i < length kids = slice_get_within kids i kid e in
-    let t : (start : Size) × (slice_get starts i ≡ Some start) = some_at starts i (subst (λ n. i < n) a.many b) in
-    let k : IsKid form t.0 r i kid = a.each i t.0 kid t.1 e in
-    let w : (t.0.nodes ≡ nodes_before p form.circuit (kid_trees entries form) i) × (t.0.memories ≡ memories_before p form.circuit (kid_trees entries form) i) = s.each i t.0 t.1 in
-    (k.entry,
-      k.place
-      ∙ ap (λ n. record { nodes = n; memories = t.0.memories; inputs = Some (map (id_by r) (connections (slice_get form.circuit.instances i))) }) w.0
-      ∙ ap (λ n. record { nodes = nodes_before p form.circuit (kid_trees entries form) i; memories = n; inputs = Some (map (id_by r) (connections (slice_get form.circuit.instances i))) }) w.1
-      ∙ ap (λ z. record { nodes = nodes_before p form.circuit (kid_trees entries form) i; memories = memories_before p form.circuit (kid_trees entries form) i; inputs = Some (map (id_by z) (connections (slice_get form.circuit.instances i))) }) q));
+      let t : (start : Size) × (slice_get starts i ≡ Some start) = some_at starts i (subst (λ n. i < n) a.many b) in
+      let k : IsKid form t.0 r i kid = a.each i t.0 kid t.1 e in
+      let w : (t.0.nodes ≡ nodes_before p form.circuit (kid_trees entries form) i) × (t.0.memories ≡ memories_before p form.circuit (kid_trees entries form) i) = s.each i t.0 t.1 in (
+        k.entry,
+        k.place
+            ∙ ap (λ n. record { nodes = n; memories = t.0.memories; inputs = Some (map (id_by r) (connections (slice_get form.circuit.instances i))) }) w.0
+            ∙ ap (λ n. record { nodes = nodes_before p form.circuit (kid_trees entries form) i; memories = n; inputs = Some (map (id_by r) (connections (slice_get form.circuit.instances i))) }) w.1
+            ∙ ap (λ z. record { nodes = nodes_before p form.circuit (kid_trees entries form) i; memories = memories_before p form.circuit (kid_trees entries form) i; inputs = Some (map (id_by z) (connections (slice_get form.circuit.instances i))) }) q,
+      ));
 }
 
 module _ (h : History) (legal : IsLegal h) (entry : EntryId) (form : FormView) (p : Place) (kids : List Kid) (at : slice_get h.entries entry.0 ≡ Some form) (are : AreKids h.entries form p kids) where

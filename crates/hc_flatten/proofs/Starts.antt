@@ -47,12 +47,12 @@ pub starts_more : (p : Place) (form : FormView) (entries : List FormView) (start
 starts_more p form entries starts n s a r = record {
   many = (let m : length starts ≡ n = a.many in let l : length (starts ++ s ∷ []) ≡ length starts + 1 = length-append starts (s ∷ []) in omega (arith, m, l));
   each = λ i start e. (elim (slice_cases starts (s ∷ []) i start e) [
-      | inl l ↦ a.each i start l
-      | inr q ↦ (let z : (q.0 ≡ 0) × (s ≡ start) = only_zero q.0 s start q.2 in
+    | inl l ↦ a.each i start l
+    | inr q ↦ (let z : (q.0 ≡ 0) × (s ≡ start) = only_zero q.0 s start q.2 in
         let x : q.0 ≡ 0 = z.0 in let y : i ≡ length starts + q.0 = q.1 in let m : length starts ≡ n = a.many in
         let t : i ≡ n = omega (arith, x, y, m) in
         (ap (λ (w : Size). w.nodes) (sym z.1) ∙ r.nodes ∙ ap (nodes_before p form.circuit (kid_trees entries form)) (sym t), ap (λ (w : Size). w.memories) (sym z.1) ∙ r.memories ∙ ap (memories_before p form.circuit (kid_trees entries form)) (sym t)))
-    ]);
+  ]);
 }
 
 pub reaches_next : (entries : List FormView) (sizes : List (Option Size)) (form : FormView) (a b i : ℕ) (id : EntryId) (start end : Size)
@@ -76,6 +76,6 @@ sizes_more entries sizes new k form o m are u h q i size e =
     elim (slice_cases sizes (o ∷ []) i (Some size) (subst (λ l. slice_get l i ≡ Some (Some size)) q e)) [
       | inl l ↦ are i size l
       | inr r ↦ (let z : (r.0 ≡ 0) × (o ≡ Some size) = only_first r.0 o (Some size) r.2 in
-        let x : r.0 ≡ 0 = z.0 in let y : i ≡ length sizes + r.0 = r.1 in let t : k ≡ i = omega (arith, x, y, m) in
-        subst (λ n. HasSize (unfolding_of entries (record { 0 = n })) size) t (subst (λ v. HasSize v size) (sym u) (subst (λ w. IfSome w (HasSize (tree_of entries form))) z.1 h)))
+          let x : r.0 ≡ 0 = z.0 in let y : i ≡ length sizes + r.0 = r.1 in let t : k ≡ i = omega (arith, x, y, m) in
+          subst (λ n. HasSize (unfolding_of entries (record { 0 = n })) size) t (subst (λ v. HasSize v size) (sym u) (subst (λ w. IfSome w (HasSize (tree_of entries form))) z.1 h)))
     ]

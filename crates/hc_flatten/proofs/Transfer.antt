@@ -17,7 +17,7 @@ use Rattle.hc_signal.specs.Lawful.{IsLawfulNode, IsLawfulWrite, IsLawfulMemory, 
 use Rattle.hc_signal.specs.Renumber.{Renumbering, id_by, clear_by, node_by, write_by, memory_by}
 
 module _ (r : Renumbering) (g h : Graph) (width_to : (id : NodeId) (w : ℕ) → HasWidth g id w → HasWidth h (id_by r id) w)
-  (memories_to : (m : ℕ) (memory : Memory) → slice_get g.memories m ≡ Some memory → slice_get h.memories (r.mem m) ≡ Some (memory_by r memory)) where
+    (memories_to : (m : ℕ) (memory : Memory) → slice_get g.memories m ≡ Some memory → slice_get h.memories (r.mem m) ≡ Some (memory_by r memory)) where
   all_width_to : (ids : List NodeId) (w : ℕ) → AllHaveWidth g ids w → AllHaveWidth h (map (id_by r) ids) w
   all_width_to ids w u id k = (let m : _ = has_from_map (id_by r) ids id k in subst (λ x. HasWidth h x w) m.2 (width_to m.0 w (u m.0 m.1)))
 

@@ -9,7 +9,7 @@ ghost use Rattle.hc_signal.specs.Tree.{leaf};
 
 use crate::layout::{Laid, lay};
 use crate::place::Place;
-use crate::size::entry_sizes;
+use crate::size::{entry_sizes, size_of};
 use hc_canon::{EntryId, ports_copy};
 use hc_dbstate::{DbState, Hier, walks_are_whole};
 use hc_fault::{ItemList, NoMemory};
@@ -35,9 +35,14 @@ fn lay_top(alloc: Global, db: &DbState, entry: EntryId) -> Result<Laid, NoMemory
     ensures few { IfOk result (λ laid. (length laid.nodes.items ≤ 4294967296) × (length laid.memories.items ≤ 4294967296)) }
 {
     let sizes = entry_sizes(alloc, db)?;
+    let size = match size_of(sizes.as_slice(), entry) {
+        Some(size) => size,
+        None => return Err(NoMemory),
+    };
+    size.fits();
     let mut laid = Laid {
-        nodes: Vec::new(alloc),
-        memories: Vec::new(alloc),
+        nodes: Vec::with_capacity(alloc, size.nodes as usize)?,
+        memories: Vec::with_capacity(alloc, size.memories as usize)?,
     };
     let top = Place {
         nodes: 0,
@@ -45,9 +50,6 @@ fn lay_top(alloc: Global, db: &DbState, entry: EntryId) -> Result<Laid, NoMemory
         inputs: None,
     };
     lay(alloc, db, sizes.as_slice(), entry, &top, &mut laid)?;
-    if laid.nodes.len() > 4294967296 || laid.memories.len() > 4294967296 {
-        return Err(NoMemory);
-    }
     Ok(laid)
 }
 

@@ -240,7 +240,11 @@ fn kid_of(
     ensures { IfOk result (IsKid form.now start (renumbering numbers.now) i) }
 {
     form.canonical();
-    let inputs = new_ids(alloc, numbers, form.circuit().instances()[i].conns.as_slice())?;
+    let inputs = new_ids(
+        alloc,
+        numbers,
+        form.circuit().instances()[i].conns.as_slice(),
+    )?;
     Ok(Kid {
         entry: form.kids()[i],
         place: Place {

@@ -1,4 +1,4 @@
-ghost use Rattle.std.specs.Prelude.{◌≡◌, ◌+◌, length, slice_get, IfOk, IfSome, Some};
+ghost use Rattle.std.specs.Prelude.{◌≡◌, ◌+◌, ◌<◌, length, slice_get, IfOk, IfSome, Some};
 ghost use Rattle.hc_dbstate.specs.Unfolding.{tree_of, unfolding_of};
 ghost use Rattle.hc_flatten.specs.Sizes.{AreSizes, HasSize, IsAfter, Reaches};
 
@@ -13,6 +13,13 @@ use std::alloc::Global;
 pub struct Size {
     pub nodes: u32,
     pub memories: u32,
+}
+
+impl Size {
+    /// Both counts fit 32 bits.
+    pub fn fits(self)
+        ensures { (self.nodes < 4294967296) × (self.memories < 4294967296) }
+    {}
 }
 
 /// The sum of two sizes, unless it does not fit.
@@ -52,13 +59,23 @@ pub fn own_size(circuit: &Circuit) -> Option<Size>
     }
 }
 
+/// The size of an entry, unless it does not fit.
+pub fn size_of(sizes: &[Option<Size>], id: EntryId) -> Option<Size>
+    ensures { IfSome result (λ size. slice_get sizes.now id.0 ≡ Some (Some size)) }
+{
+    match sizes.get(id.0) {
+        Some(size) => *size,
+        None => None,
+    }
+}
+
 /// The sum of a size and that of an entry.
 pub fn after_kid(sizes: &[Option<Size>], start: Size, kid: EntryId) -> Option<Size>
     ensures { IfSome result (λ sum. IsAfter sizes.now start kid sum) }
 {
-    match sizes.get(kid.0) {
-        Some(Some(size)) => plus(start, *size),
-        _ => None,
+    match size_of(sizes, kid) {
+        Some(size) => plus(start, size),
+        None => None,
     }
 }
 

@@ -9,10 +9,13 @@ use Rattle.hc_flatten.proofs.layout.+lay.Goals as goal
 pub lay-requires : goal.lay-requires
 lay-requires t c =
     let are : AreKids c.args.db.now.entries c.get.result.now c.args.place.now c.as_slice-kid-items.result.now = subst (AreKids c.args.db.now.entries c.get.result.now c.args.place.now) (sym c.as_slice-kid-items.ensures.value) c.in_ok-kids.ensures.kids in
-    let e : _ = (are.each c.kids.kid-index c.kid-item.result (item_at _ c.as_slice-kid-items.result.now c.kids.kid-index c.kid-item.result refl c.kids-test.true c.kid-item.is)).0 in
-    (subst (λ n. c.kid-item.result.entry.0 < n) c.decreases (kid_below c.args.db.now c.legal.ensures c.args.entry.0 c.get.result.now c.kids.kid-index c.kid-item.result.entry c.get.ensures e),
-      (kid_known c.args.db.now c.legal.ensures c.get.result.now (c.args.entry.0, c.get.ensures) c.kids.kid-index c.kid-item.result.entry e,
-      c.requires.sizes))
+    let e : _ = (are.each c.kids.kid-index c.kid-item.result (item_at _ c.as_slice-kid-items.result.now c.kids.kid-index c.kid-item.result refl c.kids-test.true c.kid-item.is)).0 in (
+      subst (λ n. c.kid-item.result.entry.0 < n) c.decreases (kid_below c.args.db.now c.legal.ensures c.args.entry.0 c.get.result.now c.kids.kid-index c.kid-item.result.entry c.get.ensures e),
+      (
+        kid_known c.args.db.now c.legal.ensures c.get.result.now (c.args.entry.0, c.get.ensures) c.kids.kid-index c.kid-item.result.entry e,
+        c.requires.sizes,
+      ),
+    )
 
 pub kids-preserved : goal.kids-preserved
 kids-preserved t c = record {

@@ -14,9 +14,9 @@ pub returns : goal.returns
 returns c =
     IfOk-weaker c.sum.result _ _
     (λ k e. output_is _ c.legal.ensures c.args.form.now c.args.place.now c.args.i c.args.port _ c.get.result.now _ k c.id_at.result
-      (read_at c.args.form.now.kids c.kids.result.now _ c.args.i (record { 0 = 0 }) c.kids.ensures c.canonical.ensures.kids c.requires.there)
-      c.get.ensures
-      (c.requires.starts.each c.args.i _ (read_at c.args.starts.now c.args.starts.now _ c.args.i (record { nodes = 0; memories = 0 }) refl c.requires.starts.many c.requires.there)).0
-      (c.id_at.ensures ∙ ap (λ l. id_or_zero (slice_get l c.args.port)) (c.outputs-outputs.ensures ∙ ap (λ g. g.outputs) c.circuit.ensures))
-      e)
+    (read_at c.args.form.now.kids c.kids.result.now _ c.args.i (record { 0 = 0 }) c.kids.ensures c.canonical.ensures.kids c.requires.there)
+    c.get.ensures
+    (c.requires.starts.each c.args.i _ (read_at c.args.starts.now c.args.starts.now _ c.args.i (record { nodes = 0; memories = 0 }) refl c.requires.starts.many c.requires.there)).0
+    (c.id_at.ensures ∙ ap (λ l. id_or_zero (slice_get l c.args.port)) (c.outputs-outputs.ensures ∙ ap (λ g. g.outputs) c.circuit.ensures))
+    e)
     c.sum.ensures

@@ -7,3 +7,6 @@ mod place;
 mod size;
 
 pub use flattening::flatten;
+
+#[cfg(test)]
+mod tests;

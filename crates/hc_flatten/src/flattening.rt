@@ -28,7 +28,7 @@ fn ids_copy(alloc: Global, ids: &[NodeId]) -> Result<ItemList<NodeId>, NoMemory>
 }
 
 /// Lays an entry with all that stands below it.
-pub(crate) fn lay_top(alloc: Global, db: &DbState, entry: EntryId) -> Result<Laid, NoMemory>
+fn lay_top(alloc: Global, db: &DbState, entry: EntryId) -> Result<Laid, NoMemory>
     requires { entry.0 < length db.now.entries }
     ensures nodes { IfOk result (λ laid. laid.nodes.items ≡ flat_nodes top (unfolding_of db.now.entries entry)) }
     ensures memories { IfOk result (λ laid. laid.memories.items ≡ flat_memories top (unfolding_of db.now.entries entry)) }

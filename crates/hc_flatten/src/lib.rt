@@ -7,6 +7,3 @@ mod place;
 mod size;
 
 pub use flattening::flatten;
-
-#[cfg(test)]
-mod tests;

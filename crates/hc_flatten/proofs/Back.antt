@@ -1,26 +1,26 @@
 -- What a flat graph reaches is reached in the tree: so it has drivers and no loop where the tree has them and has none.
-use Rattle.std.proofs.Common.{◌≡◌, ℕ, ◌<◌, ◌≤◌, Bool, true, false, List, [], ◌∷◌, map, length, refl, sym, ◌∙◌, ap, subst}
+use Rattle.std.proofs.Common.{◌≡◌, ℕ, ◌≤◌, false, List, [], ◌∷◌, map, length, refl, sym, ◌∙◌, ap, subst}
 use Rattle.std.specs.Prelude.{slice_get, Option, Some, None, option_map}
-use Rattle.hc_signal.specs.Member.{Has, first, later}
+use Rattle.hc_signal.specs.Member.{Has}
 use Rattle.hc_signal.specs.declared.signal.Ports.{Ports}
 use Rattle.hc_signal.specs.declared.signal.NodeId.{NodeId}
 use Rattle.hc_signal.specs.declared.signal.NodeRow.{NodeRow}
 use Rattle.hc_signal.specs.declared.signal.Node.{Node}
 use Rattle.hc_signal.specs.declared.signal.Node.TheVariants.{Input, Wire, Const, Two, Not, Mux, Cat, Select, Reg, Read, InstOut, Op}
 use Rattle.hc_signal.specs.declared.signal.Memory.{Memory}
-use Rattle.hc_signal.specs.Graph.{Graph, Vertex, node, mem, inst, Reached, output, further, fanin, fanin_of_node, fanin_of_row, fanin_of_memory, node_of, nodes_of}
+use Rattle.hc_signal.specs.Graph.{Graph, Vertex, node, mem, inst, Reached, output, further, fanin, fanin_of_row, fanin_of_memory, node_of}
 use Rattle.hc_signal.specs.Lawful.{NodeAt}
 use Rattle.hc_signal.specs.Checked.{IsChecked}
-use Rattle.hc_signal.specs.Renumber.{Renumbering, renumber, id_by, node_by, row_by, memory_by}
+use Rattle.hc_signal.specs.Renumber.{Renumbering, renumber, id_by, node_by, row_by}
 use Rattle.hc_signal.specs.Tree.{Tree, graph, leaf}
-use Rattle.hc_signal.specs.Occurrences.{Occurrence, graph_at, row_at, NodeIs, IsReachedPath, is_port_alias, comb_fanin, CombStep, inside, down, up, CombPath, here, on, HasCombLoop}
+use Rattle.hc_signal.specs.Occurrences.{Occurrence, graph_at, IsReachedPath, is_port_alias, comb_fanin, CombStep, inside, down, up, CombPath, here, on, HasCombLoop}
 use Rattle.hc_signal.specs.FlatGraph as flat
 use Rattle.hc_signal.specs.FlatGraph.{FlatReached, IsFlat, within}
 use Rattle.hc_walk.proofs.Members.{has_map, has_from_map}
 use Rattle.hc_paths.proofs.Composed.{comb_fanin_fanin, path_then}
 use Rattle.hc_canon.proofs.Isomorphisms.{row_parts_by, memory_parts_by}
 use Rattle.hc_dbstate.proofs.Triples.{some_once}
-use Rattle.hc_flatten.proofs.Good.{IsGood, lawful_of, checked_of, good_at, there}
+use Rattle.hc_flatten.proofs.Good.{IsGood, checked_of, good_at, there}
 use Rattle.hc_flatten.proofs.Passing.{is_inst, no_inst, writes_not, comb_by}
 use Rattle.hc_flatten.proofs.Settled.{IsSettled, settle}
 

@@ -1,16 +1,11 @@
 -- Lists laid out over a tree, a block for each occurrence, and where each block stands.
-use Rattle.std.proofs.Common.{◌≡◌, ℕ, zero, suc, ◌+◌, ◌<◌, ◌≤◌, ◌⊎◌, inl, inr, List, [], ◌∷◌, ◌++◌, map, length, refl, sym, ◌∙◌, ap, ap₂, subst, arith, append_assoc, length-append}
-use Rattle.std.proofs.lemmas.List.{length-map}
+use Rattle.std.proofs.Common.{◌≡◌, ℕ, zero, suc, ◌+◌, ◌<◌, ◌⊎◌, inl, inr, List, [], ◌∷◌, ◌++◌, length, refl, sym, ◌∙◌, ap, ap₂, subst, arith, length-append}
 use Rattle.std.proofs.lemmas.Option.{slice_get_within}
-use Rattle.std.specs.Prelude.{slice_get, Option, Some, None}
-use Rattle.hc_signal.specs.declared.signal.NodeRow.{NodeRow}
-use Rattle.hc_signal.specs.declared.signal.Memory.{Memory}
-use Rattle.hc_signal.specs.declared.signal.Instance.{Instance}
+use Rattle.std.specs.Prelude.{slice_get, Some}
 use Rattle.hc_signal.specs.Graph.{Graph}
 use Rattle.hc_signal.specs.Tree.{Tree, none, tree, empty, graph, kid}
 use Rattle.hc_signal.specs.Occurrences.{tree_at, graph_at}
 use Rattle.hc_canon.proofs.LaidOut.{slice_left, slice_right, slice_cases}
-use Rattle.hc_dbstate.proofs.Triples.{some_at}
 use Rattle.hc_flatten.specs.declared.place.Place.{Place}
 use Rattle.hc_flatten.specs.Sizes.{sum_to, total}
 use Rattle.hc_flatten.specs.Flattened.{joined, kid_place, top, own_nodes, own_memories, flat_nodes, flat_memories}

@@ -1,14 +1,11 @@
 -- The unfolding of an elaborated entry is a tree of lawful and checked circuits.
 use Rattle.std.proofs.Common.{◌≡◌, ℕ, zero, suc, ◌+◌, ◌<◌, ◌≤◌, ◌==◌, Bool, true, false, cond, List, [], ◌∷◌, ◌++◌, map, length, refl, sym, ap, subst, ◌∙◌, arith}
-use Rattle.std.specs.Prelude.{Option, Some, None, slice_get, count_by}
+use Rattle.std.specs.Prelude.{Some, slice_get, count_by}
 use Rattle.std.proofs.lemmas.Bool.Decides.{Decides-eqb}
 use Rattle.std.proofs.lemmas.List.Sums.{sum_by-cons}
 use Rattle.std.proofs.lemmas.Option.{slice_get_within}
 use Rattle.hc_signal.specs.Member.{Has, first, later}
-use Rattle.hc_signal.specs.declared.signal.Instance.{Instance}
-use Rattle.hc_signal.specs.declared.signal.Ports.{Ports}
 use Rattle.hc_signal.specs.Graph.{Graph}
-use Rattle.hc_signal.specs.Tree.{Tree, tree, graph}
 use Rattle.hc_signal.specs.Occurrences.{HasCombLoop}
 use Rattle.hc_canon.specs.declared.form.EntryId.{EntryId}
 use Rattle.hc_canon.specs.FormView.{FormView, IsForm}
@@ -19,7 +16,6 @@ use Rattle.hc_dbstate.specs.declared.hier.Hier.{Hier}
 use Rattle.hc_dbstate.specs.Elaboration.{CallRow, CallView, IsCallOver, IsElaboration, hier_view, times, walk}
 use Rattle.hc_dbstate.proofs.Triples.{some_at}
 use Rattle.hc_dbstate.proofs.Unfolded.{kid_below, unfolds}
-use Rattle.hc_flatten.specs.Flattened.{kid_trees}
 use Rattle.hc_flatten.proofs.Good.{IsGood}
 use Rattle.hc_flatten.proofs.Kids.{kid_is, kid_graph, kid_known}
 

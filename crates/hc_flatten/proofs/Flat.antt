@@ -1,19 +1,18 @@
 -- The graph that is laid is the flat graph of the tree.
-use Rattle.std.proofs.Common.{◌≡◌, ℕ, zero, suc, ◌+◌, ◌<◌, Bool, true, false, List, [], ◌∷◌, length, map, refl, sym, ◌∙◌, ap, subst, arith}
+use Rattle.std.proofs.Common.{◌≡◌, ℕ, zero, suc, ◌+◌, ◌<◌, Bool, false, List, [], ◌∷◌, length, map, refl, sym, ◌∙◌, ap, arith}
 use Rattle.std.proofs.lemmas.List.{length-map}
 use Rattle.std.proofs.lemmas.Option.{slice_get-map, slice_get_within}
 use Rattle.std.specs.Prelude.{slice_get, Option, Some, None, option_map, if◌then◌else◌}
 use Rattle.hc_signal.specs.Member.{Has, first, later}
 use Rattle.hc_signal.specs.declared.signal.NodeId.{NodeId}
 use Rattle.hc_signal.specs.declared.signal.NodeRow.{NodeRow}
-use Rattle.hc_signal.specs.declared.signal.Node.{Node}
-use Rattle.hc_signal.specs.declared.signal.Node.TheVariants.{Input, Wire, Const, Two, Not, Mux, Cat, Select, Reg, Read, InstOut, Op}
+use Rattle.hc_signal.specs.declared.signal.Node.TheVariants.{Input, Wire, InstOut}
 use Rattle.hc_signal.specs.declared.signal.Memory.{Memory}
 use Rattle.hc_signal.specs.declared.signal.Instance.{Instance}
-use Rattle.hc_signal.specs.Graph.{Graph, Vertex, node, mem, inst, Reached}
+use Rattle.hc_signal.specs.Graph.{mem}
 use Rattle.hc_signal.specs.Lawful.{IsLawful}
-use Rattle.hc_signal.specs.Renumber.{Renumbering, id_by, node_by, row_by, memory_by}
-use Rattle.hc_signal.specs.Tree.{Tree, none, tree, empty, graph, kid}
+use Rattle.hc_signal.specs.Renumber.{Renumbering, id_by, row_by, memory_by}
+use Rattle.hc_signal.specs.Tree.{Tree, graph, kid}
 use Rattle.hc_signal.specs.Occurrences as step
 use Rattle.hc_signal.specs.Occurrences.{Occurrence, tree_at, graph_at, row_at, NodeIs, IsFlatNode, IsReachedPath, is_port_alias, connection, connection_of}
 use Rattle.hc_signal.specs.FlatGraph.{FlatReached, FlatNumbering, within, IsFlat}
@@ -23,7 +22,7 @@ use Rattle.hc_paths.proofs.Composed.{step_reached}
 use Rattle.hc_canon.specs.Numbering.{count_from}
 use Rattle.hc_flatten.specs.declared.place.Place.{Place}
 use Rattle.hc_flatten.specs.Sizes.{total, nodes_in, memories_in}
-use Rattle.hc_flatten.specs.Flattened.{number_of, nodes_before, id_or_zero, output_number, numbering, connections, passes_on, unread, flat_row, own_nodes, own_memories, flat_nodes, flat_memories, flat_graph, top}
+use Rattle.hc_flatten.specs.Flattened.{number_of, nodes_before, id_or_zero, connections, passes_on, unread, flat_row, own_nodes, own_memories, flat_nodes, flat_memories, flat_graph, top}
 use Rattle.hc_flatten.proofs.Blocks.{place_at, IsThere, Block, laid, laid_length, block_at, nodes_are_laid, memories_are_laid}
 use Rattle.hc_flatten.proofs.Good.{IsGood, lawful_of, good_at, there}
 use Rattle.hc_flatten.proofs.Reaches.{flat_reached}

@@ -1,5 +1,5 @@
 -- What is laid for the top of an elaboration has all that is said of it.
-use Rattle.std.proofs.Common.{◌≡◌, ℕ, ◌<◌, ◌≤◌, List, [], ◌∷◌, ◌++◌, length, refl, sym, ap, subst, ◌∙◌, arith}
+use Rattle.std.proofs.Common.{◌≡◌, ◌<◌, ◌≤◌, List, [], ◌∷◌, ◌++◌, length, refl, sym, ap, subst, ◌∙◌, arith}
 use Rattle.std.specs.Prelude.{slice_get, Option, Some}
 use Rattle.hc_signal.specs.Member.{Has}
 use Rattle.hc_signal.specs.declared.signal.Ports.{Ports}
@@ -8,11 +8,8 @@ use Rattle.hc_signal.specs.declared.signal.NodeRow.{NodeRow}
 use Rattle.hc_signal.specs.declared.signal.Memory.{Memory}
 use Rattle.hc_signal.specs.declared.signal.Instance.{Instance}
 use Rattle.hc_signal.specs.Graph.{Graph}
-use Rattle.hc_signal.specs.Lawful.{IsLawful}
-use Rattle.hc_signal.specs.Checked.{IsChecked}
-use Rattle.hc_signal.specs.Tree.{Tree, graph, leaf}
+use Rattle.hc_signal.specs.Tree.{Tree, graph}
 use Rattle.hc_signal.specs.Occurrences.{HasCombLoop}
-use Rattle.hc_signal.specs.FlatGraph.{IsFlat}
 use Rattle.hc_canon.specs.declared.form.EntryId.{EntryId}
 use Rattle.hc_canon.specs.FormView.{FormView}
 use Rattle.hc_dbstate.specs.History.{History, IsLegal}

@@ -1,16 +1,14 @@
 -- Trees all of whose circuits are lawful and checked.
-use Rattle.std.proofs.Common.{◌≡◌, ℕ, ◌<◌, List, [], ◌∷◌, length}
+use Rattle.std.proofs.Common.{◌≡◌, ℕ, List, [], ◌∷◌}
 use Rattle.std.proofs.lemmas.Option.{slice_get_within}
 use Rattle.std.specs.Prelude.{slice_get, Some}
 use Rattle.hc_signal.specs.declared.signal.Instance.{Instance}
-use Rattle.hc_signal.specs.Graph.{Graph, node, inst, mem, Reached, output, further}
+use Rattle.hc_signal.specs.Graph.{inst}
 use Rattle.hc_signal.specs.Lawful.{IsLawful}
 use Rattle.hc_signal.specs.Checked.{IsChecked}
 use Rattle.hc_signal.specs.Tree.{Tree, none, tree, graph, kid}
-use Rattle.hc_signal.specs.Occurrences.{tree_at, graph_at, IsReachedPath, down, up}
-use Rattle.hc_signal.specs.FlatGraph.{FlatReached, output, to_node, to_mem, down, up}
+use Rattle.hc_signal.specs.Occurrences.{tree_at, graph_at, IsReachedPath}
 use Rattle.hc_walk.proofs.InRange.{HasRow, reached_row}
-use Rattle.hc_paths.proofs.Composed.{step_reached}
 use Rattle.hc_dbstate.proofs.Triples.{some_at}
 use Rattle.hc_flatten.proofs.Blocks.{IsThere}
 

@@ -1,13 +1,13 @@
 -- The kids of an entry of a legal history.
-use Rattle.std.proofs.Common.{◌≡◌, ℕ, ◌+◌, ◌<◌, List, length, refl, sym, ◌∙◌, ap, subst, arith}
+use Rattle.std.proofs.Common.{◌≡◌, ℕ, ◌+◌, ◌<◌, List, length, sym, ◌∙◌, ap, subst, arith}
 use Rattle.std.proofs.lemmas.Option.{slice_get_within, slice_get-get_or}
 use Rattle.std.specs.Prelude.{slice_get, get_or, Some}
-use Rattle.hc_signal.specs.Tree.{Tree, tree, graph}
+use Rattle.hc_signal.specs.Tree.{graph}
 use Rattle.hc_signal.specs.Graph.{Graph}
 use Rattle.hc_canon.specs.declared.form.EntryId.{EntryId}
 use Rattle.hc_canon.specs.FormView.{FormView}
 use Rattle.hc_dbstate.specs.History.{History, IsLegal}
-use Rattle.hc_dbstate.specs.Unfolding.{kid_tree, unfolding_of, tree_of}
+use Rattle.hc_dbstate.specs.Unfolding.{kid_tree, unfolding_of}
 use Rattle.hc_dbstate.proofs.Unfolded.{kid_below, unfolds}
 use Rattle.hc_flatten.specs.declared.place.Place.{Place}
 use Rattle.hc_flatten.specs.Flattened.{IsEntry, kid_trees, nodes_before, output_number, id_or_zero}

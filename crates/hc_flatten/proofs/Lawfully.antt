@@ -1,9 +1,9 @@
 -- The graph that is laid is lawful.
-use Rattle.std.proofs.Common.{◌≡◌, ℕ, zero, suc, ◌+◌, ◌<◌, ◌≤◌, ◌⊎◌, inl, inr, Bool, true, false, List, [], ◌∷◌, map, length, refl, sym, ◌∙◌, ap, subst, arith}
+use Rattle.std.proofs.Common.{◌≡◌, ℕ, ◌+◌, ◌≤◌, ◌⊎◌, inl, inr, Bool, true, false, List, [], ◌∷◌, length, refl, sym, ◌∙◌, ap, subst, arith}
 use Rattle.std.proofs.lemmas.List.{length-map}
 use Rattle.std.proofs.lemmas.Option.{slice_get-map, slice_get_within}
-use Rattle.std.specs.Prelude.{slice_get, Option, Some, None, option_map, if◌then◌else◌}
-use Rattle.hc_signal.specs.Member.{Has, first, later}
+use Rattle.std.specs.Prelude.{slice_get, Option, Some, None, option_map}
+use Rattle.hc_signal.specs.Member.{Has}
 use Rattle.hc_signal.specs.declared.signal.InstId.{InstId}
 use Rattle.hc_signal.specs.declared.signal.NodeId.{NodeId}
 use Rattle.hc_signal.specs.declared.signal.NodeRow.{NodeRow}
@@ -12,17 +12,16 @@ use Rattle.hc_signal.specs.declared.signal.Node.TheVariants.{Input, Wire, Const,
 use Rattle.hc_signal.specs.declared.signal.Memory.{Memory}
 use Rattle.hc_bits.specs.BitVector.{IsWidth}
 use Rattle.hc_signal.specs.Graph.{Graph}
-use Rattle.hc_signal.specs.Lawful.{IsLawful, IsLawfulNode, IsLawfulMemory, HasWidth, HaveWidths, HaveWidthsOf, NodeAt}
+use Rattle.hc_signal.specs.Lawful.{IsLawful, IsLawfulNode, IsLawfulMemory, HasWidth, HaveWidthsOf, NodeAt}
 use Rattle.hc_signal.specs.Renumber.{Renumbering, id_by, node_by, row_by, memory_by}
 use Rattle.hc_signal.specs.Tree.{Tree, graph}
-use Rattle.hc_signal.specs.Occurrences.{tree_at, graph_at, is_port_alias}
+use Rattle.hc_signal.specs.Occurrences.{graph_at, is_port_alias}
 use Rattle.hc_walk.proofs.Members.{has_slice}
 use Rattle.hc_canon.proofs.LaidOut.{has_index}
 use Rattle.hc_dbstate.proofs.Triples.{some_once}
-use Rattle.hc_flatten.specs.declared.place.Place.{Place}
 use Rattle.hc_flatten.specs.Sizes.{nodes_in, memories_in}
-use Rattle.hc_flatten.specs.Flattened.{passes_on, unread, flat_row, own_nodes, own_memories, flat_nodes, flat_memories, flat_graph, top}
-use Rattle.hc_flatten.proofs.Blocks.{place_at, IsThere, IsFrom, laid_from, laid, nodes_are_laid, memories_are_laid}
+use Rattle.hc_flatten.specs.Flattened.{passes_on, unread, flat_row, own_nodes, own_memories, flat_graph, top}
+use Rattle.hc_flatten.proofs.Blocks.{place_at, IsThere, IsFrom, laid_from, nodes_are_laid, memories_are_laid}
 use Rattle.hc_flatten.proofs.Good.{IsGood}
 use Rattle.hc_flatten.proofs.Numbers.{numbers_at, flat_number, memory_number, passed_same}
 use Rattle.hc_flatten.proofs.Flat.{row_of_flat, memory_laid, kept_row, output_node, input_node, top_outputs}

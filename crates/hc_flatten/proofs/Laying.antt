@@ -1,15 +1,15 @@
 -- What is laid for an occurrence and the occurrences of its instances.
-use Rattle.std.proofs.Common.{◌≡◌, ℕ, zero, suc, ◌+◌, ◌<◌, ◌≤◌, List, [], ◌∷◌, ◌++◌, map, length, refl, sym, ◌∙◌, ap, ap₂, subst, arith, append_assoc}
+use Rattle.std.proofs.Common.{◌≡◌, ℕ, zero, suc, ◌+◌, ◌<◌, ◌≤◌, List, [], ◌++◌, map, length, refl, sym, ◌∙◌, ap, ap₂, subst, arith, append_assoc}
 use Rattle.std.proofs.lemmas.Option.{slice_get_within}
 use Rattle.std.specs.Prelude.{slice_get, Option, Some, None}
 use Rattle.hc_signal.specs.declared.signal.NodeRow.{NodeRow}
 use Rattle.hc_signal.specs.declared.signal.Memory.{Memory}
 use Rattle.hc_signal.specs.Renumber.{Renumbering, id_by}
-use Rattle.hc_signal.specs.Tree.{Tree, tree}
+use Rattle.hc_signal.specs.Tree.{Tree}
 use Rattle.hc_canon.specs.declared.form.EntryId.{EntryId}
 use Rattle.hc_canon.specs.FormView.{FormView}
 use Rattle.hc_dbstate.specs.History.{History, IsLegal}
-use Rattle.hc_dbstate.specs.Unfolding.{kid_tree, unfolding_of, tree_of}
+use Rattle.hc_dbstate.specs.Unfolding.{unfolding_of}
 use Rattle.hc_dbstate.proofs.Unfolded.{unfolds}
 use Rattle.hc_dbstate.proofs.Triples.{some_at}
 use Rattle.hc_flatten.specs.declared.place.Place.{Place}

@@ -1,6 +1,6 @@
 -- What the flat graph reaches is reached.
-use Rattle.std.proofs.Common.{◌≡◌, ℕ, List, [], ◌∷◌}
-use Rattle.hc_signal.specs.Graph.{Graph, Vertex, node, mem, Reached, output, further}
+use Rattle.std.proofs.Common.{ℕ, List}
+use Rattle.hc_signal.specs.Graph.{Vertex, node, mem, Reached, output, further}
 use Rattle.hc_signal.specs.Tree.{Tree}
 use Rattle.hc_signal.specs.Occurrences as step
 use Rattle.hc_signal.specs.Occurrences.{graph_at, IsReachedPath}

@@ -1,5 +1,5 @@
 -- Numbers of rows, one row more at a time.
-use Rattle.std.proofs.Common.{◌≡◌, ℕ, zero, suc, ◌+◌, ◌<◌, List, [], ◌∷◌, ◌++◌, length, take, refl, sym, ◌∙◌, ap, subst, arith}
+use Rattle.std.proofs.Common.{◌≡◌, ℕ, zero, suc, ◌+◌, ◌<◌, List, [], ◌∷◌, ◌++◌, length, take, refl, ◌∙◌, ap, subst, arith}
 use Rattle.std.specs.Prelude.{slice_get, get_or, Some}
 use Rattle.std.proofs.lemmas.Option.{slice_get_read}
 use Rattle.hc_signal.specs.declared.signal.NodeRow.{NodeRow}

@@ -1,5 +1,5 @@
 -- What a reached node stands for.
-use Rattle.std.proofs.Common.{◌≡◌, ℕ, zero, suc, ◌<◌, ◌⊎◌, inl, inr, Bool, true, false, List, [], ◌∷◌, map, length, refl, sym, ◌∙◌, ap, subst}
+use Rattle.std.proofs.Common.{◌≡◌, ℕ, zero, suc, inl, inr, false, List, [], ◌∷◌, map, refl, sym, ◌∙◌, ap, subst}
 use Rattle.std.proofs.lemmas.Option.{slice_get-map, slice_get_within}
 use Rattle.std.specs.Prelude.{slice_get, Option, Some, None, option_map}
 use Rattle.hc_signal.specs.declared.signal.Port.{Port}
@@ -7,12 +7,11 @@ use Rattle.hc_signal.specs.declared.signal.Ports.{Ports}
 use Rattle.hc_signal.specs.declared.signal.NodeId.{NodeId}
 use Rattle.hc_signal.specs.declared.signal.InstId.{InstId}
 use Rattle.hc_signal.specs.declared.signal.NodeRow.{NodeRow}
-use Rattle.hc_signal.specs.declared.signal.Node.{Node}
 use Rattle.hc_signal.specs.declared.signal.Node.TheVariants.{Input, Wire, InstOut}
 use Rattle.hc_signal.specs.declared.signal.Instance.{Instance}
-use Rattle.hc_signal.specs.Graph.{Graph, node, inst, Reached}
+use Rattle.hc_signal.specs.Graph.{Graph, node}
 use Rattle.hc_signal.specs.Lawful.{IsLawful, IsLawfulNode, HasWidth, HaveWidths, HaveWidthsOf}
-use Rattle.hc_signal.specs.Tree.{Tree, graph, kid}
+use Rattle.hc_signal.specs.Tree.{Tree, kid}
 use Rattle.hc_signal.specs.Occurrences as step
 use Rattle.hc_signal.specs.Occurrences.{Occurrence, tree_at, graph_at, NodeIs, IsFlatNode, IsReachedPath, is_port_alias, connection, connection_of, CombPath, here, on}
 use Rattle.hc_signal.specs.FlatGraph as flat

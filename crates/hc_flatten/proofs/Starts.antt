@@ -1,8 +1,7 @@
 -- Sums of sizes before an instance.
-use Rattle.std.proofs.Common.{◌≡◌, ℕ, zero, suc, ◌+◌, ◌<◌, ◌≤◌, ◌⊎◌, inl, inr, List, [], ◌∷◌, ◌++◌, length, refl, sym, ◌∙◌, ap, subst, arith, length-append}
-use Rattle.std.proofs.lemmas.Option.{slice_get_within}
+use Rattle.std.proofs.Common.{◌≡◌, ℕ, zero, suc, ◌+◌, inl, inr, List, [], ◌∷◌, ◌++◌, length, refl, sym, ◌∙◌, ap, subst, arith, length-append}
 use Rattle.std.specs.Prelude.{slice_get, Option, Some, IfSome}
-use Rattle.hc_signal.specs.Tree.{Tree, tree}
+use Rattle.hc_signal.specs.Tree.{Tree}
 use Rattle.hc_canon.specs.declared.form.EntryId.{EntryId}
 use Rattle.hc_canon.specs.FormView.{FormView}
 use Rattle.hc_canon.proofs.LaidOut.{slice_cases}
@@ -11,7 +10,7 @@ use Rattle.hc_dbstate.proofs.Triples.{some_once}
 use Rattle.hc_flatten.specs.declared.size.Size.{Size}
 use Rattle.hc_flatten.specs.declared.place.Place.{Place}
 use Rattle.hc_flatten.specs.Sizes.{sum_to, total, nodes_in, memories_in, HasSize, AreSizes, IsAfter, Reaches}
-use Rattle.hc_flatten.specs.Flattened.{kid_trees, nodes_before, memories_before, AreStarts}
+use Rattle.hc_flatten.specs.Flattened.{kid_trees, nodes_before, memories_before}
 
 -- the sizes of one instance more
 pub reaches_more : (entries : List FormView) (sizes : List (Option Size)) (form : FormView) (a b i : ℕ) (id : EntryId) (start end : Size)

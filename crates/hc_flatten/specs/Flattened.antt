@@ -15,7 +15,6 @@ use Rattle.hc_signal.specs.FlatGraph.{IsFlat}
 use Rattle.hc_signal.specs.Occurrences.{HasCombLoop}
 use Rattle.hc_canon.specs.Numbering.{count_from}
 use Rattle.hc_canon.specs.Numbers.{by_tables}
-use Rattle.hc_canon.specs.declared.form.EntryId.{EntryId}
 use Rattle.hc_canon.specs.FormView.{FormView}
 use Rattle.hc_dbstate.specs.Unfolding.{kid_tree, unfolding_of}
 use Rattle.hc_flatten.specs.declared.place.Place.{Place}

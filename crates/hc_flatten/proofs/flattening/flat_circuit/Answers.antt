@@ -1,9 +1,8 @@
-use Rattle.std.proofs.Common.{◌≡◌, ◌<◌, ◌≤◌, length, sym, ap, subst, ◌∙◌}
+use Rattle.std.proofs.Common.{◌<◌, ◌≤◌, length, sym, ap, subst, ◌∙◌}
 use Rattle.hc_signal.specs.declared.signal.Ports.{Ports}
 use Rattle.hc_signal.specs.Graph.{Graph}
 use Rattle.hc_canon.specs.declared.form.EntryId.{EntryId}
 use Rattle.hc_dbstate.specs.Unfolding.{unfolding_of}
-use Rattle.hc_dbstate.specs.declared.hier.Hier.{Hier}
 use Rattle.hc_dbstate.specs.declared.hier.Hier.TheFolds.{fold_out-Hier}
 use Rattle.hc_dbstate.specs.Elaboration.{HierView, hier_level, hier_view}
 use Rattle.hc_flatten.specs.Flattened.{IsFlattened}

@@ -1,4 +1,4 @@
-use Rattle.std.proofs.Common.{◌≡◌, ◌<◌, sym, ap, subst, ◌∙◌, refl}
+use Rattle.std.proofs.Common.{◌<◌, sym, ap, subst, refl}
 use Rattle.hc_dbstate.proofs.Unfolded.{kid_below}
 use Rattle.hc_flatten.specs.Flattened.{AreKids}
 use Rattle.hc_flatten.proofs.Kids.{kid_known}

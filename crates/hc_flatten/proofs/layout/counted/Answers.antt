@@ -1,4 +1,4 @@
-use Rattle.std.proofs.Common.{◌≡◌, ◌++◌, ◌∷◌, [], ap, sym, ◌∙◌}
+use Rattle.std.proofs.Common.{◌++◌, ◌∷◌, [], ap, sym, ◌∙◌}
 use Rattle.hc_canon.specs.Numbering.{count_from}
 use Rattle.hc_flatten.proofs.Rows.{count_next}
 use Rattle.hc_flatten.proofs.layout.counted.Goals as goal

@@ -1,4 +1,4 @@
-use Rattle.std.proofs.Common.{◌≡◌, ◌++◌, ◌∷◌, [], take, ap, sym, ◌∙◌}
+use Rattle.std.proofs.Common.{◌++◌, ◌∷◌, [], take, ap, sym, ◌∙◌}
 use Rattle.hc_flatten.specs.Flattened.{kid_trees, numbers_from}
 use Rattle.hc_flatten.proofs.Rows.{numbers_next, item_at}
 use Rattle.hc_flatten.proofs.layout.node_numbers.Goals as goal

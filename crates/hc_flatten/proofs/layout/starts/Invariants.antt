@@ -1,4 +1,4 @@
-use Rattle.std.proofs.Common.{◌≡◌, ◌+◌, length}
+use Rattle.std.proofs.Common.{◌+◌, length}
 use Rattle.hc_flatten.specs.Sizes.{Reaches}
 use Rattle.hc_flatten.specs.Flattened.{kid_trees}
 use Rattle.hc_flatten.proofs.Starts.{AreFirstStarts}

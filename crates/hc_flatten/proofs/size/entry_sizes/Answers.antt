@@ -1,4 +1,4 @@
-use Rattle.std.proofs.Common.{◌≡◌, ◌+◌, length, ap, ◌∙◌, length-append}
+use Rattle.std.proofs.Common.{◌+◌, length, ap, ◌∙◌, length-append}
 use Rattle.hc_flatten.proofs.Starts.{sizes_more}
 use Rattle.hc_flatten.proofs.size.entry_sizes.Goals as goal
 

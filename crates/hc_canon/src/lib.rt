@@ -18,6 +18,8 @@ pub use laws::{
     canonical_forms_are_single, canonical_forms_exist, equal_forms_have_equal_hashes,
     forms_decide_isomorphism, same_is_an_equivalence,
 };
+pub use numbers::Numbers;
+pub use renumber::{Renumber, new_ids, ports_copy};
 
 #[cfg(test)]
 mod tests;

@@ -1,0 +1,16 @@
+pub mod Kids
+pub mod Starts
+pub mod Rows
+pub mod Laying
+pub mod Blocks
+pub mod Good
+pub mod Reaches
+pub mod Numbers
+pub mod Flat
+pub mod Passing
+pub mod Settled
+pub mod Back
+pub mod Elaborated
+pub mod Transfer
+pub mod Lawfully
+pub mod Flattens

@@ -1,0 +1,12 @@
+//! Simulation of a circuit without instances: the values of all nodes, cycle after cycle.
+#![tactic(auto)]
+
+mod compute;
+mod edges;
+mod flat;
+mod make;
+mod operands;
+mod settle;
+mod words;
+
+pub use flat::FlatSim;

@@ -3,7 +3,7 @@ ghost use Rattle.std.specs.Prelude.{◌≡◌, ◌<◌, ◌==◌, [], length, ma
 ghost use Rattle.hc_bits.specs.BitVector.{BitVector};
 ghost use Rattle.hc_bench.specs.Simulation.{cleared, is_enabled, next_value};
 ghost use Rattle.hc_signal.specs.Lawful.{IsLawfulMemory, IsLawfulNode, IsLawfulWrite, MayClear, MayHaveWidth};
-ghost use Rattle.hc_flatsim.specs.Edges.{initial_register_at, initial_registers, next_memories, next_of_row, next_register_at, next_registers, next_words_at, places, written, written_all};
+ghost use Rattle.hc_flatsim.specs.Edges.{initial_of, initial_register_at, initial_registers, next_memories, next_of_row, next_register_at, next_registers, next_words_at, places, written, written_all};
 ghost use Rattle.hc_flatsim.specs.Machine.{memory_widths, node_widths, number_at, widths};
 ghost use Rattle.hc_flatsim.specs.Settling.{valuation};
 ghost use Rattle.hc_flatsim.specs.Updates.{replaced};
@@ -102,6 +102,16 @@ pub fn step_registers(circuit: &Circuit, order: &[NodeId], values: &[Bits], regi
     }
 }
 
+/// The initial value of a register, and the old one for other nodes.
+fn initial_of(row: &NodeRow, old: Bits) -> Bits
+    ensures { result ≡ initial_of row.now.node old }
+{
+    match &row.node {
+        Node::Reg { init, .. } => *init,
+        _ => old,
+    }
+}
+
 /// Puts the register of one node to its initial value.
 fn reset_register(circuit: &Circuit, registers: &mut [Bits], id: NodeId)
     requires registers { widths registers.old ≡ node_widths circuit.now.nodes }
@@ -110,9 +120,8 @@ fn reset_register(circuit: &Circuit, registers: &mut [Bits], id: NodeId)
 {
     circuit.lawful();
     if let Some(row) = circuit.nodes().get(id.0 as usize) {
-        if let Node::Reg { init, .. } = &row.node {
-            registers[id.0 as usize] = *init;
-        }
+        let initial = initial_of(row, registers[id.0 as usize]);
+        registers[id.0 as usize] = initial;
     }
 }
 

@@ -1,5 +1,5 @@
 //! What operators make of the values of their operands.
-ghost use Rattle.std.specs.Prelude.{◌≡◌, ◌<◌, ◌≤◌, length, map, sum};
+ghost use Rattle.std.specs.Prelude.{◌≡◌, ◌<◌, ◌≤◌, length, map};
 ghost use Rattle.hc_bits.specs.BitVector.{cat_all, mux};
 ghost use Rattle.hc_signal.specs.Operators.{binary};
 ghost use Rattle.hc_flatsim.specs.Machine.{node_widths, widths};
@@ -53,14 +53,18 @@ pub fn cat(circuit: &Circuit, values: &[Bits], parts: &[NodeId]) -> Bits
     requires values { widths values.now ≡ node_widths circuit.now.nodes }
     requires some { 1 ≤ length parts.now }
     requires within { AreWithin circuit.now parts.now }
-    requires fits { sum (widths (map (operand circuit.now values.now) parts.now)) ≤ 128 }
+    requires fits { (cat_all (map (operand circuit.now values.now) parts.now)).width ≤ 128 }
     ensures { result ≡ cat_all (map (operand circuit.now values.now) parts.now) }
 {
-    let mut at = parts.len() - 1;
-    let mut joined = operand(circuit, values, parts[at]);
-    'parts: while at > 0 {
-        at -= 1;
-        joined = operand(circuit, values, parts[at]).cat(joined);
+    match parts.split_first() {
+        None => unreachable!(),
+        Some((first, rest)) => {
+            let high = operand(circuit, values, *first);
+            if rest.is_empty() {
+                high
+            } else {
+                high.cat(cat(circuit, values, rest))
+            }
+        }
     }
-    joined
 }

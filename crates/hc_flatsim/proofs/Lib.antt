@@ -1,0 +1,9 @@
+pub mod Shapes
+pub mod Changes
+pub mod Computing
+pub mod Settled
+pub mod Registers
+pub mod Held
+pub mod Cycles
+pub mod Written
+pub mod Stepped

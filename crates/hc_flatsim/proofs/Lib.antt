@@ -7,3 +7,5 @@ pub mod Held
 pub mod Cycles
 pub mod Written
 pub mod Stepped
+pub mod Ports
+pub mod Started

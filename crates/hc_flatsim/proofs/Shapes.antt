@@ -9,7 +9,7 @@ use Rattle.hc_bits.specs.BitVector.{BitVector}
 use Rattle.hc_signal.specs.declared.signal.NodeId.{NodeId}
 use Rattle.hc_signal.specs.declared.signal.NodeRow.{NodeRow}
 use Rattle.hc_signal.specs.Graph.{Graph}
-use Rattle.hc_signal.specs.Lawful.{HasWidth}
+use Rattle.hc_signal.specs.Lawful.{IsLawful, HasWidth}
 use Rattle.hc_bench.specs.Simulation.{width_of}
 use Rattle.hc_flatsim.specs.Machine.{widths, node_widths, number_of}
 use Rattle.hc_flatsim.specs.Settling.{operand, AreWithin}
@@ -55,3 +55,8 @@ case_within g ids k d a l = a (get_or ids k d) (has_slice ids k (get_or ids k d)
 -- an item that a loop reads
 pub item_has : {X : Type 0} (xs : List X) (k : ℕ) (x : X) → k < length xs → x ≡ get_or xs k x → Has xs x
 item_has xs k x l e = has_slice xs k x (slice_get_read xs (length xs) k x refl l e)
+
+pub output_within : (g : Graph) → IsLawful g → (all : List NodeId) (k : ℕ) (d : NodeId) → all ≡ g.outputs → k < length all → (get_or all k d).0 < length g.nodes
+output_within g l all k d e b =
+    let w = l.wires (get_or all k d) (subst (λ s. Has s (get_or all k d)) e (has_slice all k (get_or all k d) (slice_get-get_or all k d b))) in
+    slice_get_within g.nodes (get_or all k d).0 w.0 w.2

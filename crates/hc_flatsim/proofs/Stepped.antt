@@ -28,15 +28,15 @@ use Rattle.hc_flatsim.proofs.Held.{keys_differ, one_node, one_memory, has_among,
 use Rattle.hc_flatsim.proofs.Written.{words_written}
 use Rattle.hc_flatsim.proofs.Cycles.{outputs_are, settles}
 
-pairs_agree : {K X : Type 0} (h : Occurrence × X → Occurrence × X) (old new : K → Occurrence × X) (ids : List K) → ((id : K) → Has ids id → h (old id) ≡ new id) → map h (map old ids) ≡ map new ids
+pub pairs_agree : {K X : Type 0} (h : Occurrence × X → Occurrence × X) (old new : K → Occurrence × X) (ids : List K) → ((id : K) → Has ids id → h (old id) ≡ new id) → map h (map old ids) ≡ map new ids
 pairs_agree h old new [] a = refl
 pairs_agree h old new (id ∷ ids) a = ap₂ (λ x xs. x ∷ xs) (a id first) (pairs_agree h old new ids (λ i c. a i (later c)))
 
-abbrev init_node : Node → ℕ
+abbrev pub init_node : Node → ℕ
 init_node (Reg next enable clear init) = init.value
 init_node other = 0
 
-abbrev init_row : Option NodeRow → ℕ
+abbrev pub init_row : Option NodeRow → ℕ
 init_row None = 0
 init_row (Some row) = init_node row.node
 

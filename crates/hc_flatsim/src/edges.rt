@@ -156,7 +156,8 @@ fn write_all(circuit: &Circuit, values: &[Bits], memory: &Memory, words: &mut Wo
     requires lawful { IsLawfulMemory circuit.now memory.now }
     ensures { words.new ≡ written_all circuit.now values.now memory.now.writes words.old }
 {
-    'ports: for port in memory.writes.as_slice() {
+    let ports = memory.writes.as_slice();
+    'ports: for port in ports {
         write(circuit, values, port, words);
     }
 }

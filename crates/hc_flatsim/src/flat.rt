@@ -1,13 +1,14 @@
 ghost use Rattle.std.specs.Prelude.{◌≡◌, ◌<◌, [], length, map, slice_get, slice_index, slice_set, IfOk, Some};
 ghost use Rattle.hc_bench.specs.Simulation as simulation;
 
+ghost use Rattle.hc_bench.specs.Steps.{IsPortValue};
 ghost use Rattle.hc_bench.specs.Trace.{IsAtStart};
 ghost use Rattle.hc_signal.specs.Checked.{IsChecked};
 ghost use Rattle.hc_signal.specs.Occurrences.{HasCombLoop};
 ghost use Rattle.hc_signal.specs.Tree.{graph, leaf};
 ghost use Rattle.hc_signal.specs.declared.signal.Port.{Port};
 ghost use Rattle.hc_flatsim.specs.Edges.{initial_registers, next_memories, next_registers};
-ghost use Rattle.hc_flatsim.specs.Machine.{simulation_of, HasNoOps};
+ghost use Rattle.hc_flatsim.specs.Machine.{simulation_of, HasNoOps, IsMachine};
 ghost use Rattle.hc_flatsim.specs.Settling.{given_of, operand, settled};
 
 use crate::edges::{reset_registers, step_memories, step_registers};
@@ -131,40 +132,68 @@ impl<'a> FlatSim<'a> {
             self.memories.as_mut_slice(),
         );
     }
-}
 
-impl<'a> Sim for FlatSim<'a> {
-    ghost runs = { λ sim. simulation_of sim };
-
-    fn lawful(&self) {
+    /// Each simulator keeps this.
+    fn machine(&self)
+        ensures { IsMachine self.now }
+    {
         let _ = &self.order;
     }
 
-    fn set(&mut self, port: u32, value: Bits) {
+    /// Sets an input.
+    fn put(&mut self, port: u32, value: Bits)
+        requires { IsPortValue self.old.graph.ports.inputs port value }
+        ensures { self.new ≡ record self.old { inputs = slice_set self.old.inputs port value } }
+    {
         self.inputs[port as usize] = value;
     }
 
-    fn cycle(&mut self) {
-        self.settle();
-        self.note_before();
-        self.edge();
-        self.settle();
-        self.note_after();
-    }
-
-    fn reset(&mut self) {
+    /// Puts each register to its initial value.
+    fn restart(&mut self)
+        ensures { self.new ≡ record self.old { registers = initial_registers self.old.graph self.old.order self.old.registers } }
+    {
         reset_registers(
             self.circuit,
             self.order.as_slice(),
             self.registers.as_mut_slice(),
         );
     }
+}
+
+impl<'a> Sim for FlatSim<'a> {
+    ghost runs = { λ sim. simulation_of sim };
+
+    fn lawful(&self) {
+        self.machine();
+    }
+
+    fn set(&mut self, port: u32, value: Bits) {
+        self.put(port, value);
+    }
+
+    fn cycle(&mut self) {
+        self.machine();
+        self.settle();
+        self.note_before();
+        self.machine();
+        self.edge();
+        self.machine();
+        self.settle();
+        self.note_after();
+    }
+
+    fn reset(&mut self) {
+        self.machine();
+        self.restart();
+    }
 
     fn before(&self, port: u32) -> Bits {
-        self.before[port as usize]
+        let outputs = self.before.as_slice();
+        outputs[port as usize]
     }
 
     fn after(&self, port: u32) -> Bits {
-        self.after[port as usize]
+        let outputs = self.after.as_slice();
+        outputs[port as usize]
     }
 }

@@ -45,8 +45,9 @@ pub fn zeros_of_nodes(alloc: Global, circuit: &Circuit) -> Result<Vec<Bits>, NoM
     ensures { IfOk result (λ values. values.items ≡ map (λ (row : NodeRow). zero_of row.width) circuit.now.nodes) }
 {
     circuit.lawful();
+    let rows = circuit.nodes();
     let mut values = Vec::new(alloc);
-    'rows: for row in circuit.nodes() {
+    'rows: for row in rows {
         values.push(zero(row.width))?;
     }
     Ok(values)
@@ -66,12 +67,13 @@ pub fn zeros_of_ports(alloc: Global, ports: &[Port]) -> Result<Vec<Bits>, NoMemo
 
 /// All words 0, for each memory.
 pub fn zeros_of_memories(alloc: Global, circuit: &Circuit) -> Result<Vec<Words>, NoMemory>
-    ensures { IfOk result (λ memories. memories.items ≡ map zeros_of_memory circuit.now.memories) }
+    ensures { IfOk result (λ words. words.items ≡ map zeros_of_memory circuit.now.memories) }
 {
     circuit.lawful();
-    let mut memories = Vec::new(alloc);
-    'memories: for memory in circuit.memories() {
-        memories.push(Words::zeros(alloc, memory.size, memory.width)?)?;
+    let memories = circuit.memories();
+    let mut words = Vec::new(alloc);
+    'memories: for memory in memories {
+        words.push(Words::zeros(alloc, memory.size, memory.width)?)?;
     }
-    Ok(memories)
+    Ok(words)
 }

@@ -1,6 +1,6 @@
 //! The values of all nodes that the outputs reach.
 ghost use Rattle.std.specs.Prelude.{◌≡◌, length, map, slice_get};
-ghost use Rattle.hc_flatsim.specs.Machine.{node_widths, widths};
+ghost use Rattle.hc_flatsim.specs.Machine.{node_widths, port_widths, widths};
 ghost use Rattle.hc_flatsim.specs.Settling.{operand, settled, with_row, IsGiven};
 
 use crate::compute::compute;
@@ -49,7 +49,7 @@ pub fn settle(
 }
 
 /// Notes the values of outputs.
-pub fn note(circuit: &Circuit, values: &[Bits], to: &mut [Bits])
+fn note_values(circuit: &Circuit, values: &[Bits], to: &mut [Bits])
     requires values { widths values.now ≡ node_widths circuit.now.nodes }
     requires many { length to.old ≡ length circuit.now.outputs }
     ensures { to.new ≡ map (operand circuit.now values.now) circuit.now.outputs }
@@ -59,4 +59,15 @@ pub fn note(circuit: &Circuit, values: &[Bits], to: &mut [Bits])
     'outputs: for k in 0..outputs.len() {
         to[k] = operand(circuit, values, outputs[k]);
     }
+}
+
+/// Notes the values of outputs in place of others.
+pub fn note(circuit: &Circuit, values: &[Bits], to: &mut [Bits])
+    requires values { widths values.now ≡ node_widths circuit.now.nodes }
+    requires widths { widths to.old ≡ port_widths circuit.now.ports.outputs }
+    ensures value { to.new ≡ map (operand circuit.now values.now) circuit.now.outputs }
+    ensures widths { widths to.new ≡ port_widths circuit.now.ports.outputs }
+{
+    circuit.lawful();
+    note_values(circuit, values, to);
 }

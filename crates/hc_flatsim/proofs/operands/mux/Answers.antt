@@ -9,7 +9,7 @@ pub operand-requires-clause-within : goal.operand-requires-clause-within
 operand-requires-clause-within c =
     let is : c.min-place.result ≡ min c.value.result (length c.args.cases.now - 1) = c.min-place.ensures in
     let some : 1 ≤ length c.args.cases.now = c.requires.some in
-    case_within _ _ _ _ c.requires.within (omega (arith, is, some))
+    case_within c.args.circuit.now c.args.cases.now c.min-place.result (record { 0 = 0 }) c.requires.within (omega (arith, is, some))
 
 pub returns : goal.returns
 returns c =

@@ -9,3 +9,4 @@ pub mod Written
 pub mod Stepped
 pub mod Ports
 pub mod Started
+pub mod Arms

@@ -51,7 +51,7 @@ word_number : (w : ℕ) (o : Option BitVector) → (word_or_zero w o).value ≡ 
 word_number w None = refl
 word_number w (Some word) = refl
 
-same_width : (n w k z : ℕ) → slice_get (replicate n w) k ≡ Some z → z ≡ w
+pub same_width : (n w k z : ℕ) → slice_get (replicate n w) k ≡ Some z → z ≡ w
 same_width zero w k z e = absurd (cc)
 same_width (suc n) w zero z e = sym (same_Some _ _ e)
 same_width (suc n) w (suc k) z e = same_width n w k z e

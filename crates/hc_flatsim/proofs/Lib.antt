@@ -10,3 +10,5 @@ pub mod Stepped
 pub mod Ports
 pub mod Started
 pub mod Arms
+pub mod WordWidths
+pub mod Made

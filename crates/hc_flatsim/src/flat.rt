@@ -12,7 +12,7 @@ ghost use Rattle.hc_flatsim.specs.Machine.{simulation_of, HasNoOps, IsMachine};
 ghost use Rattle.hc_flatsim.specs.Settling.{given_of, operand, settled};
 
 use crate::edges::{reset_registers, step_memories, step_registers};
-use crate::make::{used_memories, zeros_of_memories, zeros_of_nodes, zeros_of_ports};
+use crate::make::{initial_registers, used_memories, zeros_of_memories, zeros_of_nodes, zeros_of_ports};
 use crate::settle::{note, settle};
 use crate::words::Words;
 use hc_bench::Sim;
@@ -67,8 +67,7 @@ impl<'a> FlatSim<'a> {
         };
         let used = used_memories(alloc, circuit)?;
         let values = zeros_of_nodes(alloc, circuit)?;
-        let mut registers = zeros_of_nodes(alloc, circuit)?;
-        reset_registers(circuit, order.as_slice(), registers.as_mut_slice());
+        let registers = initial_registers(alloc, circuit, order.as_slice())?;
         let memories = zeros_of_memories(alloc, circuit)?;
         let ports = circuit.ports();
         let inputs = zeros_of_ports(alloc, ports.inputs.as_slice())?;

@@ -9,12 +9,15 @@ ghost use Rattle.hc_signal.specs.declared.signal.Memory.{Memory};
 ghost use Rattle.hc_signal.specs.declared.signal.NodeRow.{NodeRow};
 ghost use Rattle.hc_signal.specs.declared.signal.Port.{Port};
 ghost use Rattle.hc_paths.specs.Digraph.{AllDifferent};
+ghost use Rattle.hc_flatsim.specs.Edges.{initial_registers};
+ghost use Rattle.hc_flatsim.specs.Machine.{node_widths, widths};
 ghost use Rattle.hc_flatsim.specs.Starting.{memories_among, zero_of, zeros_of_memory};
 
+use crate::edges::reset_registers;
 use crate::words::{zero, Words};
 use hc_bits::Bits;
 use hc_fault::NoMemory;
-use hc_signal::{Circuit, MemId, Memory, NodeRow, Port};
+use hc_signal::{Circuit, MemId, Memory, NodeId, NodeRow, Port};
 use hc_walk::{walk, VertexId};
 use std::alloc::Global;
 
@@ -51,6 +54,20 @@ pub fn zeros_of_nodes(alloc: Global, circuit: &Circuit) -> Result<Vec<Bits>, NoM
         values.push(zero(row.width))?;
     }
     Ok(values)
+}
+
+/// The initial value of each register among these nodes, and 0 for the other nodes.
+pub fn initial_registers(
+    alloc: Global,
+    circuit: &Circuit,
+    order: &[NodeId],
+) -> Result<Vec<Bits>, NoMemory>
+    ensures value { IfOk result (λ registers. registers.items ≡ initial_registers circuit.now order.now (map (λ (row : NodeRow). zero_of row.width) circuit.now.nodes)) }
+    ensures widths { IfOk result (λ registers. widths registers.items ≡ node_widths circuit.now.nodes) }
+{
+    let mut registers = zeros_of_nodes(alloc, circuit)?;
+    reset_registers(circuit, order, registers.as_mut_slice());
+    Ok(registers)
 }
 
 /// 0 for each port, in its width.

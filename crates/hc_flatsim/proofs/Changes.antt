@@ -35,4 +35,3 @@ updated_here f [] m xs x d h at = elim h [ ]
 updated_here f (n ∷ places) _ xs x d first at = updated_other f places n (replaced (f n) n xs) d.0 ∙ replaced_here (f n) n xs x at
 updated_here f (n ∷ places) m xs x d (later h) at =
     updated_here f places m (replaced (f n) n xs) x d.1 h (replaced_other (f n) n m xs (λ e. d.0 (subst (λ k. Has places k) (sym e) h)) ∙ at)
-

@@ -113,20 +113,20 @@ module _ (g : Graph) (given : Given) (order : List NodeId) (values : List BitVec
       let whole : final ≡ settled g given (id ∷ p.1) upto = ap (λ l. settled g given l values) p.2 ∙ settled_parts g given p.0 (id ∷ p.1) values in
       let within : id.0 < length upto = subst (λ n. id.0 < n) (sym (settled_many g given p.0 values ∙ many)) (slice_get_within g.nodes id.0 row is) in
       let alone : ¬ Has p.1 id = λ h.
-          let k : (k : ℕ) × (slice_get p.1 k ≡ Some id) = place p.1 id h in
-          let j : (j : ℕ) × (length p.0 + suc k.0 ≡ j) × (slice_get (p.0 ++ id ∷ p.1) j ≡ Some id) = past p.0 (id ∷ p.1) (suc k.0) id k.1 in
-          let same : i ≡ j.0 = s.once i j.0 id at (subst (λ l. slice_get l j.0 ≡ Some id) (sym p.2) j.2) in
-          let b : length p.0 ≡ i = p.3 in let e : length p.0 + suc k.0 ≡ j.0 = j.1 in omega (arith, same, b, e) in
+      let k : (k : ℕ) × (slice_get p.1 k ≡ Some id) = place p.1 id h in
+      let j : (j : ℕ) × (length p.0 + suc k.0 ≡ j) × (slice_get (p.0 ++ id ∷ p.1) j ≡ Some id) = past p.0 (id ∷ p.1) (suc k.0) id k.1 in
+      let same : i ≡ j.0 = s.once i j.0 id at (subst (λ l. slice_get l j.0 ≡ Some id) (sym p.2) j.2) in
+      let b : length p.0 ≡ i = p.3 in let e : length p.0 + suc k.0 ≡ j.0 = j.1 in omega (arith, same, b, e) in
       let here : slice_get final id.0 ≡ Some (own_vector g given upto id.0 row) =
-          ap (λ l. slice_get l id.0) whole ∙ settled_other g given p.1 step id alone ∙ with_row_here g given upto id.0 (slice_get g.nodes id.0) row is within in
+      ap (λ l. slice_get l id.0) whole ∙ settled_other g given p.1 step id alone ∙ with_row_here g given upto id.0 (slice_get g.nodes id.0) row is within in
       let kept : AgreeOn g given upto final id.0 (comb_fanin row.node) = λ m h.
-          let a : (j : ℕ) × (j < i) × (slice_get order j ≡ Some m) = s.after i id m row.node at (row, is, refl) h in
-          let other : ¬ Has (id ∷ p.1) m = λ c.
-              let k : (k : ℕ) × (slice_get (id ∷ p.1) k ≡ Some m) = place (id ∷ p.1) m c in
-              let j : (j : ℕ) × (length p.0 + k.0 ≡ j) × (slice_get (p.0 ++ id ∷ p.1) j ≡ Some m) = past p.0 (id ∷ p.1) k.0 m k.1 in
-              let same : a.0 ≡ j.0 = s.once a.0 j.0 m a.2 (subst (λ l. slice_get l j.0 ≡ Some m) (sym p.2) j.2) in
-              let b : length p.0 ≡ i = p.3 in let e : length p.0 + k.0 ≡ j.0 = j.1 in let l : a.0 < i = a.1 in omega (arith, same, b, e, l) in
-          ap number_of (sym (ap (λ l. slice_get l m.0) whole ∙ settled_other g given (id ∷ p.1) upto m other)) in
+      let a : (j : ℕ) × (j < i) × (slice_get order j ≡ Some m) = s.after i id m row.node at (row, is, refl) h in
+      let other : ¬ Has (id ∷ p.1) m = λ c.
+      let k : (k : ℕ) × (slice_get (id ∷ p.1) k ≡ Some m) = place (id ∷ p.1) m c in
+      let j : (j : ℕ) × (length p.0 + k.0 ≡ j) × (slice_get (p.0 ++ id ∷ p.1) j ≡ Some m) = past p.0 (id ∷ p.1) k.0 m k.1 in
+      let same : a.0 ≡ j.0 = s.once a.0 j.0 m a.2 (subst (λ l. slice_get l j.0 ≡ Some m) (sym p.2) j.2) in
+      let b : length p.0 ≡ i = p.3 in let e : length p.0 + k.0 ≡ j.0 = j.1 in let l : a.0 < i = a.1 in omega (arith, same, b, e, l) in
+      ap number_of (sym (ap (λ l. slice_get l m.0) whole ∙ settled_other g given (id ∷ p.1) upto m other)) in
       ap number_of here ∙ own_agrees g given upto final id.0 row.node kept
 
   pub computed : (id : NodeId) (row : NodeRow) → Has order id → slice_get g.nodes id.0 ≡ Some row → number_at final id.0 ≡ own_value g given final id.0 row.node

@@ -109,8 +109,8 @@ module _ (m : Machine) (is : IsMachine m) (start : List BitVector) (start_widths
       let r = reg_row m is id c in
       let x : (x : BitVector) × (slice_get start id.0 ≡ Some x) × (x.width ≡ r.0.width) = found (λ (b : BitVector). b.width) (λ (row : NodeRow). row.width) start m.graph.nodes id.0 r.0 start_widths r.1 in
       let new : slice_get m.registers id.0 ≡ Some (initial_register_at m.graph id.0 x.0) =
-          ap (λ (l : List BitVector). slice_get l id.0) registers_are
-          ∙ updated_here (initial_register_at m.graph) (places m.order) id.0 start x.0 (keys_differ (λ (i : NodeId). i.0) one_node m.order (order_differ m is)) (has_map (λ (i : NodeId). i.0) (has_among m.graph m.order id c).0) x.1 in
+      ap (λ (l : List BitVector). slice_get l id.0) registers_are
+      ∙ updated_here (initial_register_at m.graph) (places m.order) id.0 start x.0 (keys_differ (λ (i : NodeId). i.0) one_node m.order (order_differ m is)) (has_map (λ (i : NodeId). i.0) (has_among m.graph m.order id c).0) x.1 in
       ap (λ (o : Option NodeRow). (at_node id.0, init_row o)) r.1 ∙ ap (λ (z : NodeOf). (at_node id.0, init_node z)) r.2.4
       ∙ sym (ap (λ o. (at_node id.0, number_of o)) new ∙ ap (λ (o : Option NodeRow). (at_node id.0, (initial_of_row o x.0).value)) r.1 ∙ ap (λ (z : NodeOf). (at_node id.0, (initial_of z x.0).value)) r.2.4)
 
@@ -123,7 +123,7 @@ module _ (m : Machine) (is : IsMachine m) (start : List BitVector) (start_widths
       let row : HasRow m.graph (mem u.0.0) = reached_row m.graph is.lawful ((is.used u.0).0 u.1) in
       let here : slice_get m.memories u.0.0 ≡ Some (zeros_of_memory row.0) = ap (λ (l : List (List BitVector)). slice_get l u.0.0) memories_are ∙ slice_get-map zeros_of_memory m.graph.memories u.0.0 ∙ ap (option_map zeros_of_memory) row.1 in
       let zeros : words ≡ replicate row.0.size 0 =
-          sym (ap (λ (q : Occurrence × List ℕ). q.1) u.2) ∙ ap (λ (o : Option (List BitVector)). numbers (words_of o)) here ∙ map_replicate (λ (b : BitVector). b.value) row.0.size (zero_of row.0.width) in
+      sym (ap (λ (q : Occurrence × List ℕ). q.1) u.2) ∙ ap (λ (o : Option (List BitVector)). numbers (words_of o)) here ∙ map_replicate (λ (b : BitVector). b.value) row.0.size (zero_of row.0.width) in
       all_zero words row.0.size zeros
 
   pub at_start : IsAtStart (simulation_of m)

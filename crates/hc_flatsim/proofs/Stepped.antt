@@ -66,7 +66,7 @@ module _ (m : Machine) (is : IsMachine m) where
         let r = reg_row m is id c in
         let x : (x : BitVector) × (slice_get m.registers id.0 ≡ Some x) × (x.width ≡ r.0.width) = found (λ (b : BitVector). b.width) (λ (row : NodeRow). row.width) m.registers m.graph.nodes id.0 r.0 is.registers r.1 in
         let new : slice_get (updated f (places m.order) m.registers) id.0 ≡ Some (f id.0 x.0) =
-            updated_here f (places m.order) id.0 m.registers x.0 (keys_differ (λ (i : NodeId). i.0) one_node m.order (order_differ m is)) (has_map (λ (i : NodeId). i.0) (has_among m.graph m.order id c).0) x.1 in
+        updated_here f (places m.order) id.0 m.registers x.0 (keys_differ (λ (i : NodeId). i.0) one_node m.order (order_differ m is)) (has_map (λ (i : NodeId). i.0) (has_among m.graph m.order id c).0) x.1 in
         ap (λ o. h (at_node id.0, number_of o)) x.1 ∙ a id c x.0 x.1 ∙ sym (ap (λ o. (at_node id.0, number_of o)) new)
 
     changed : map h (map (pair m.registers) regs) ≡ map (pair (updated f (places m.order) m.registers)) regs
@@ -92,7 +92,7 @@ module _ (m : Machine) (is : IsMachine m) where
       let row : HasRow m.graph (mem id.0) = reached_row m.graph is.lawful ((is.used id).0 c) in
       let w : (words : List BitVector) × (slice_get m.memories id.0 ≡ Some words) × (widths words ≡ memory_widths row.0) = words_found m is id.0 row.0 row.1 in
       let new : slice_get (next_memories m.graph m.values m.used m.memories) id.0 ≡ Some (next_words_at m.graph m.values id.0 w.0) =
-          updated_here (next_words_at m.graph m.values) (memory_places m.used) id.0 m.memories w.0 (keys_differ (λ (i : MemId). i.0) one_memory m.used is.used_once) (has_map (λ (i : MemId). i.0) c) w.1 in
+      updated_here (next_words_at m.graph m.values) (memory_places m.used) id.0 m.memories w.0 (keys_differ (λ (i : MemId). i.0) one_memory m.used is.used_once) (has_map (λ (i : MemId). i.0) c) w.1 in
       ap (λ (o : Option (List BitVector)). (at_node id.0, words_by (valuation m.values) (numbers (words_of o)) (slice_get m.graph.memories id.0))) w.1
       ∙ ap (λ (o : Option Memory). (at_node id.0, words_by (valuation m.values) (numbers w.0) o)) row.1
       ∙ ap (λ (l : List ℕ). (at_node id.0, l)) (words_written m.graph m.values row.0.writes w.0)

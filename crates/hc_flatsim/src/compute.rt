@@ -5,7 +5,7 @@ ghost use Rattle.hc_flatsim.specs.Machine.{node_widths, widths, word_or_zero, wo
 ghost use Rattle.hc_flatsim.specs.Settling.{own_vector, IsGiven};
 
 use crate::operands::{cat, mux, operand, two};
-use crate::words::{zero, Words};
+use crate::words::{Words, zero};
 use hc_bits::Bits;
 use hc_signal::{Circuit, MemId, Node, NodeId, NodeRow};
 
@@ -57,7 +57,12 @@ pub fn compute(
         Node::Cat { parts } => cat(circuit, values, parts.as_slice()),
         Node::Select { a, hi, lo } => operand(circuit, values, *a).select(*hi, *lo),
         Node::Reg { .. } => registers[id.0 as usize],
-        Node::Read { mem, addr } => read(memories, *mem, operand(circuit, values, *addr), row.width),
+        Node::Read { mem, addr } => read(
+            memories,
+            *mem,
+            operand(circuit, values, *addr),
+            row.width,
+        ),
         // there is no instance and no operation
         Node::InstOut { .. } | Node::Op { .. } => zero(row.width),
     }

@@ -1,6 +1,5 @@
 ghost use Rattle.std.specs.Prelude.{◌≡◌, ◌<◌, [], length, map, slice_get, slice_index, slice_set, IfOk, Some};
 ghost use Rattle.hc_bench.specs.Simulation as simulation;
-
 ghost use Rattle.hc_bench.specs.Steps.{IsPortValue};
 ghost use Rattle.hc_bench.specs.Trace.{IsAtStart};
 ghost use Rattle.hc_signal.specs.Checked.{IsChecked};
@@ -12,7 +11,9 @@ ghost use Rattle.hc_flatsim.specs.Machine.{simulation_of, HasNoOps, IsMachine};
 ghost use Rattle.hc_flatsim.specs.Settling.{given_of, operand, settled};
 
 use crate::edges::{reset_registers, step_memories, step_registers};
-use crate::make::{initial_registers, used_memories, zeros_of_memories, zeros_of_nodes, zeros_of_ports};
+use crate::make::{
+    initial_registers, used_memories, zeros_of_memories, zeros_of_nodes, zeros_of_ports,
+};
 use crate::settle::{note, settle};
 use crate::words::Words;
 use hc_bench::Sim;
@@ -104,14 +105,22 @@ impl<'a> FlatSim<'a> {
     fn note_before(&mut self)
         ensures { self.new ≡ record self.old { before = map (operand self.old.graph self.old.values) self.old.graph.outputs } }
     {
-        note(self.circuit, self.values.as_slice(), self.before.as_mut_slice());
+        note(
+            self.circuit,
+            self.values.as_slice(),
+            self.before.as_mut_slice(),
+        );
     }
 
     /// Notes the outputs as those after the edge.
     fn note_after(&mut self)
         ensures { self.new ≡ record self.old { after = map (operand self.old.graph self.old.values) self.old.graph.outputs } }
     {
-        note(self.circuit, self.values.as_slice(), self.after.as_mut_slice());
+        note(
+            self.circuit,
+            self.values.as_slice(),
+            self.after.as_mut_slice(),
+        );
     }
 
     /// The clock edge: registers and memories take what the values give.

@@ -14,11 +14,11 @@ ghost use Rattle.hc_flatsim.specs.Machine.{node_widths, widths};
 ghost use Rattle.hc_flatsim.specs.Starting.{memories_among, zero_of, zeros_of_memory};
 
 use crate::edges::reset_registers;
-use crate::words::{zero, Words};
+use crate::words::{Words, zero};
 use hc_bits::Bits;
 use hc_fault::NoMemory;
 use hc_signal::{Circuit, MemId, Memory, NodeId, NodeRow, Port};
-use hc_walk::{walk, VertexId};
+use hc_walk::{VertexId, walk};
 use std::alloc::Global;
 
 /// The memories among vertices.

@@ -12,3 +12,4 @@ pub mod Started
 pub mod Arms
 pub mod WordWidths
 pub mod Made
+pub mod NoOps

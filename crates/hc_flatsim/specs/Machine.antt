@@ -100,13 +100,13 @@ simulation_of m = record {
   after = numbers m.after;
 }
 
+abbrev pub IsNoOp : Node → Type 0
+IsNoOp (Op kind args) = ⊥
+IsNoOp other = Unit {0}
+
 -- no node of the circuit is an operation
 abbrev pub HasNoOps : Graph → Type 0
 HasNoOps g = (n : ℕ) (row : NodeRow) → slice_get g.nodes n ≡ Some row → IsNoOp row.node
-  where
-    IsNoOp : Node → Type 0
-    IsNoOp (Op kind args) = ⊥
-    IsNoOp other = Unit {0}
 
 -- A circuit that a flat simulator takes.
 pub record IsFlatCircuit (g : Graph) : Type 0 where

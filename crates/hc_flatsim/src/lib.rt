@@ -6,7 +6,9 @@ mod edges;
 mod flat;
 mod make;
 mod operands;
+mod ops;
 mod settle;
 mod words;
 
 pub use flat::FlatSim;
+pub use ops::has_no_ops;

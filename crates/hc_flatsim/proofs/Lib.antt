@@ -1,0 +1,15 @@
+pub mod Shapes
+pub mod Changes
+pub mod Computing
+pub mod Settled
+pub mod Registers
+pub mod Held
+pub mod Cycles
+pub mod Written
+pub mod Stepped
+pub mod Ports
+pub mod Started
+pub mod Arms
+pub mod WordWidths
+pub mod Made
+pub mod NoOps

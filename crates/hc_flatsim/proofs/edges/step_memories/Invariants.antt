@@ -1,0 +1,9 @@
+use Rattle.std.proofs.Common.{◌≡◌, drop, map}
+use Rattle.hc_flatsim.specs.Edges.{next_memories}
+use Rattle.hc_flatsim.specs.Machine.{memory_widths, widths}
+use Rattle.hc_flatsim.proofs.edges.step_memories.Given as goal
+
+abbrev pub invariant-used : goal.invariant-used
+invariant-used l =
+    (next_memories l.circuit l.values (drop l.id-index l.used) l.memories ≡ next_memories l.circuit l.values l.used l.initial.memories)
+    × (map widths l.memories ≡ map memory_widths l.circuit.memories)

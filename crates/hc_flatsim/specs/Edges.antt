@@ -1,0 +1,70 @@
+-- What a clock edge and a reset make of registers and memories.
+use Rattle.std.specs.Prelude.{◌≡◌, ℕ, ◌==◌, ◌&&◌, if◌then◌else◌, List, [], ◌∷◌, map, slice_get, slice_set, Option, Some, None}
+use Rattle.hc_bits.specs.BitVector.{BitVector}
+use Rattle.hc_signal.specs.declared.signal.NodeId.{NodeId}
+use Rattle.hc_signal.specs.declared.signal.MemId.{MemId}
+use Rattle.hc_signal.specs.declared.signal.NodeRow.{NodeRow}
+use Rattle.hc_signal.specs.declared.signal.Memory.{Memory}
+use Rattle.hc_signal.specs.declared.signal.WritePort.{WritePort}
+use Rattle.hc_signal.specs.declared.signal.Node.{Node}
+use Rattle.hc_signal.specs.declared.signal.Node.TheVariants.{Reg}
+use Rattle.hc_signal.specs.Graph.{Graph}
+use Rattle.hc_bench.specs.Simulation.{next_value}
+use Rattle.hc_flatsim.specs.Machine.{number_at}
+use Rattle.hc_flatsim.specs.Settling.{valuation, operand}
+use Rattle.hc_flatsim.specs.Updates.{updated}
+
+abbrev pub places : List NodeId → List ℕ
+places ids = map (λ (id : NodeId). id.0) ids
+
+abbrev pub memory_places : List MemId → List ℕ
+memory_places ids = map (λ (id : MemId). id.0) ids
+
+-- ---- registers
+
+abbrev pub next_of_row : List BitVector → Option NodeRow → BitVector → BitVector
+next_of_row values None old = old
+next_of_row values (Some row) old = record { width = old.width; value = next_value (valuation values) [] row.node old.value }
+
+-- the register of a node after the edge
+abbrev pub next_register_at : Graph → List BitVector → ℕ → BitVector → BitVector
+next_register_at g values n old = next_of_row values (slice_get g.nodes n) old
+
+abbrev pub next_registers : Graph → List BitVector → List NodeId → List BitVector → List BitVector
+next_registers g values order registers = updated (next_register_at g values) (places order) registers
+
+abbrev pub initial_of : Node → BitVector → BitVector
+initial_of (Reg next enable clear init) old = init
+initial_of other old = old
+
+abbrev pub initial_of_row : Option NodeRow → BitVector → BitVector
+initial_of_row None old = old
+initial_of_row (Some row) old = initial_of row.node old
+
+-- the register of a node after a reset
+abbrev pub initial_register_at : Graph → ℕ → BitVector → BitVector
+initial_register_at g n old = initial_of_row (slice_get g.nodes n) old
+
+abbrev pub initial_registers : Graph → List NodeId → List BitVector → List BitVector
+initial_registers g order registers = updated (initial_register_at g) (places order) registers
+
+-- ---- memories
+
+-- the words after one write port
+abbrev pub written : Graph → List BitVector → WritePort → List BitVector → List BitVector
+written g values w words = if number_at values w.enable.0 == 1 then slice_set words (number_at values w.addr.0) (operand g values w.value) else words
+
+-- the words after these write ports, in their order
+abbrev pub written_all : Graph → List BitVector → List WritePort → List BitVector → List BitVector
+written_all g values [] words = words
+written_all g values (w ∷ ws) words = written_all g values ws (written g values w words)
+
+abbrev pub next_of_memory : Graph → List BitVector → Option Memory → List BitVector → List BitVector
+next_of_memory g values None words = words
+next_of_memory g values (Some m) words = written_all g values m.writes words
+
+abbrev pub next_words_at : Graph → List BitVector → ℕ → List BitVector → List BitVector
+next_words_at g values m words = next_of_memory g values (slice_get g.memories m) words
+
+abbrev pub next_memories : Graph → List BitVector → List MemId → List (List BitVector) → List (List BitVector)
+next_memories g values used memories = updated (next_words_at g values) (memory_places used) memories

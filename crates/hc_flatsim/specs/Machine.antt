@@ -1,0 +1,130 @@
+-- What a flat simulator holds, and the simulation that it stands for.
+use Rattle.std.specs.Prelude.{◌≡◌, ◌≤◌, ℕ, Bool, true, false, if◌then◌else◌, List, [], ◌∷◌, map, length, replicate, slice_get, Option, Some, None, ◌↔◌}
+use Rattle.hc_bits.specs.BitVector.{BitVector}
+use Rattle.hc_signal.specs.Member.{Has}
+use Rattle.hc_signal.specs.declared.signal.NodeId.{NodeId}
+use Rattle.hc_signal.specs.declared.signal.MemId.{MemId}
+use Rattle.hc_signal.specs.declared.signal.NodeRow.{NodeRow}
+use Rattle.hc_signal.specs.declared.signal.Port.{Port}
+use Rattle.hc_signal.specs.declared.signal.Memory.{Memory}
+use Rattle.hc_signal.specs.declared.signal.Node.{Node}
+use Rattle.hc_signal.specs.declared.signal.Node.TheVariants.{Reg, Op}
+use Rattle.hc_signal.specs.Graph.{Graph, mem, Reached}
+use Rattle.hc_signal.specs.Lawful.{IsLawful}
+use Rattle.hc_signal.specs.Checked.{IsChecked}
+use Rattle.hc_signal.specs.Occurrences.{Occurrence, HasCombLoop}
+use Rattle.hc_signal.specs.Tree.{leaf}
+use Rattle.hc_paths.specs.Digraph.{AllDifferent}
+use Rattle.hc_paths.specs.Schedule.{IsSchedule}
+use Rattle.hc_bench.specs.Simulation.{State}
+use Rattle.hc_bench.specs.Trace.{Simulation}
+
+-- A circuit, an order of its reached nodes, its reached memories, a value and a register value for each node, the words
+-- of each memory, the inputs, and the outputs before and after the last clock edge.
+pub record Machine : Type 0 where
+  pub graph : Graph
+  pub order : List NodeId
+  pub used : List MemId
+  pub values : List BitVector
+  pub registers : List BitVector
+  pub memories : List (List BitVector)
+  pub inputs : List BitVector
+  pub before : List BitVector
+  pub after : List BitVector
+
+abbrev pub widths : List BitVector → List ℕ
+widths xs = map (λ (x : BitVector). x.width) xs
+
+abbrev pub numbers : List BitVector → List ℕ
+numbers xs = map (λ (x : BitVector). x.value) xs
+
+abbrev pub node_widths : List NodeRow → List ℕ
+node_widths rows = map (λ (row : NodeRow). row.width) rows
+
+abbrev pub port_widths : List Port → List ℕ
+port_widths ports = map (λ (p : Port). p.width) ports
+
+abbrev pub memory_widths : Memory → List ℕ
+memory_widths m = replicate m.size m.width
+
+-- the number at a place, 0 past the end
+abbrev pub number_of : Option BitVector → ℕ
+number_of None = 0
+number_of (Some x) = x.value
+
+abbrev pub number_at : List BitVector → ℕ → ℕ
+number_at xs place = number_of (slice_get xs place)
+
+-- the words at a place, none past the end
+abbrev pub words_of : Option (List BitVector) → List BitVector
+words_of None = []
+words_of (Some words) = words
+
+abbrev pub words_at : List (List BitVector) → ℕ → List BitVector
+words_at memories place = words_of (slice_get memories place)
+
+-- a word, or 0 in this width
+abbrev pub word_or_zero : ℕ → Option BitVector → BitVector
+word_or_zero width None = record { width = width; value = 0 }
+word_or_zero width (Some word) = word
+
+-- an occurrence in a circuit without instances
+abbrev pub at_node : ℕ → Occurrence
+at_node n = record { path = []; node = n }
+
+abbrev pub is_register : Node → Bool
+is_register (Reg next enable clear init) = true
+is_register other = false
+
+abbrev pub is_register_row : Option NodeRow → Bool
+is_register_row None = false
+is_register_row (Some row) = is_register row.node
+
+-- the registers among nodes
+abbrev pub registers_among : Graph → List NodeId → List NodeId
+registers_among g [] = []
+registers_among g (id ∷ ids) = if is_register_row (slice_get g.nodes id.0) then id ∷ registers_among g ids else registers_among g ids
+
+abbrev pub state_of : Machine → State
+state_of m = record {
+  registers = map (λ (id : NodeId). (at_node id.0, number_at m.registers id.0)) (registers_among m.graph m.order);
+  memories = map (λ (id : MemId). (at_node id.0, numbers (words_at m.memories id.0))) m.used;
+}
+
+abbrev pub simulation_of : Machine → Simulation
+simulation_of m = record {
+  tree = leaf m.graph;
+  state = state_of m;
+  inputs = numbers m.inputs;
+  before = numbers m.before;
+  after = numbers m.after;
+}
+
+abbrev pub IsNoOp : Node → Type 0
+IsNoOp (Op kind args) = ⊥
+IsNoOp other = Unit {0}
+
+-- no node of the circuit is an operation
+abbrev pub HasNoOps : Graph → Type 0
+HasNoOps g = (n : ℕ) (row : NodeRow) → slice_get g.nodes n ≡ Some row → IsNoOp row.node
+
+-- A circuit that a flat simulator takes.
+pub record IsFlatCircuit (g : Graph) : Type 0 where
+  pub checked : IsChecked g
+  pub instances : g.instances ≡ []
+  pub no_loop : ¬ HasCombLoop (leaf g)
+  pub no_ops : HasNoOps g
+
+-- Each list has the widths of what it stands for.
+pub record IsMachine (m : Machine) : Type 0 where
+  pub lawful : IsLawful m.graph
+  pub flat : IsFlatCircuit m.graph
+  pub schedule : IsSchedule m.graph m.order
+  pub used : (id : MemId) → Has m.used id ↔ Reached m.graph (mem id.0)
+  pub used_once : AllDifferent m.used
+  pub values : widths m.values ≡ node_widths m.graph.nodes
+  pub registers : widths m.registers ≡ node_widths m.graph.nodes
+  pub memories : map widths m.memories ≡ map memory_widths m.graph.memories
+  pub inputs : widths m.inputs ≡ port_widths m.graph.ports.inputs
+  pub before : widths m.before ≡ port_widths m.graph.ports.outputs
+  pub after : widths m.after ≡ port_widths m.graph.ports.outputs

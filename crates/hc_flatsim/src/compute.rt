@@ -1,0 +1,69 @@
+//! The value of a node.
+ghost use Rattle.std.specs.Prelude.{◌≡◌, ◌<◌, length, slice_get, Some};
+ghost use Rattle.hc_bits.specs.BitVector.{IsWidth};
+ghost use Rattle.hc_flatsim.specs.Machine.{node_widths, widths, word_or_zero, words_at};
+ghost use Rattle.hc_flatsim.specs.Settling.{own_vector, IsGiven};
+
+use crate::operands::{cat, mux, operand, two};
+use crate::words::{Words, zero};
+use hc_bits::Bits;
+use hc_signal::{Circuit, MemId, Node, NodeId, NodeRow};
+
+/// The word of a memory at an address, 0 past its end.
+fn read(memories: &[Words], mem: MemId, addr: Bits, width: u32) -> Bits
+    requires width { IsWidth width }
+    requires within { mem.0 < length memories.now }
+    ensures { result ≡ word_or_zero width (slice_get (words_at memories.now mem.0) addr.value) }
+{
+    match memories[mem.0 as usize].word(addr.value()) {
+        Some(word) => word,
+        None => zero(width),
+    }
+}
+
+/// The value of a node from those of its operands.
+pub fn compute(
+    circuit: &Circuit,
+    registers: &[Bits],
+    memories: &[Words],
+    inputs: &[Bits],
+    values: &[Bits],
+    id: NodeId,
+    row: &NodeRow,
+) -> Bits
+    requires row { slice_get circuit.now.nodes id.0 ≡ Some row.now }
+    requires given { IsGiven circuit.now (record { registers = registers.now; memories = memories.now; inputs = inputs.now }) }
+    requires values { widths values.now ≡ node_widths circuit.now.nodes }
+    ensures { result ≡ own_vector circuit.now (record { registers = registers.now; memories = memories.now; inputs = inputs.now }) values.now id.0 row.now }
+{
+    circuit.lawful();
+    match &row.node {
+        Node::Input { port } => inputs[*port as usize],
+        Node::Wire { driver: None } => zero(row.width),
+        Node::Wire { driver: Some(a) } => operand(circuit, values, *a),
+        Node::Const { value } => *value,
+        Node::Two { op, a, b } => two(
+            *op,
+            operand(circuit, values, *a),
+            operand(circuit, values, *b),
+        ),
+        Node::Not { a } => operand(circuit, values, *a).not(),
+        Node::Mux { sel, cases } => mux(
+            circuit,
+            values,
+            operand(circuit, values, *sel),
+            cases.as_slice(),
+        ),
+        Node::Cat { parts } => cat(circuit, values, parts.as_slice()),
+        Node::Select { a, hi, lo } => operand(circuit, values, *a).select(*hi, *lo),
+        Node::Reg { .. } => registers[id.0 as usize],
+        Node::Read { mem, addr } => read(
+            memories,
+            *mem,
+            operand(circuit, values, *addr),
+            row.width,
+        ),
+        // there is no instance and no operation
+        Node::InstOut { .. } | Node::Op { .. } => zero(row.width),
+    }
+}

@@ -1,0 +1,188 @@
+//! Clock edges and resets.
+ghost use Rattle.std.specs.Prelude.{◌≡◌, ◌<◌, ◌==◌, [], length, map, slice_get, Some};
+ghost use Rattle.hc_bits.specs.BitVector.{BitVector};
+ghost use Rattle.hc_bench.specs.Simulation.{cleared, is_enabled, next_value};
+ghost use Rattle.hc_signal.specs.Lawful.{IsLawfulMemory, IsLawfulNode, IsLawfulWrite, MayClear, MayHaveWidth};
+ghost use Rattle.hc_flatsim.specs.Edges.{initial_of, initial_register_at, initial_registers, next_memories, next_of_row, next_register_at, next_registers, next_words_at, places, written, written_all};
+ghost use Rattle.hc_flatsim.specs.Machine.{memory_widths, node_widths, number_at, widths};
+ghost use Rattle.hc_flatsim.specs.Settling.{valuation};
+ghost use Rattle.hc_flatsim.specs.Updates.{replaced};
+
+use crate::operands::operand;
+use crate::words::Words;
+use hc_bits::Bits;
+use hc_signal::{Circuit, MemId, Memory, Node, NodeId, NodeRow, WritePort};
+
+/// Whether a node is 1.
+fn is_one(circuit: &Circuit, values: &[Bits], id: NodeId) -> bool
+    requires values { widths values.now ≡ node_widths circuit.now.nodes }
+    requires within { id.0 < length circuit.now.nodes }
+    ensures { result ≡ (number_at values.now id.0 == 1) }
+{
+    operand(circuit, values, id).value() == 1
+}
+
+/// Whether an enable is 1 or absent.
+fn is_enabled(circuit: &Circuit, values: &[Bits], enable: Option<NodeId>) -> bool
+    requires values { widths values.now ≡ node_widths circuit.now.nodes }
+    requires within { MayHaveWidth circuit.now enable 1 }
+    ensures { result ≡ is_enabled (valuation values.now) [] enable }
+{
+    match enable {
+        None => true,
+        Some(id) => is_one(circuit, values, id),
+    }
+}
+
+/// The value of a clear that is 1.
+fn cleared(
+    circuit: &Circuit,
+    values: &[Bits],
+    clear: Option<(NodeId, Bits)>,
+    otherwise: Bits,
+) -> Bits
+    requires values { widths values.now ≡ node_widths circuit.now.nodes }
+    requires within { MayClear circuit.now clear otherwise.width }
+    ensures { result ≡ record { width = otherwise.width; value = cleared (valuation values.now) [] clear otherwise.value } }
+{
+    match clear {
+        Some((id, value)) if is_one(circuit, values, id) => value,
+        _ => otherwise,
+    }
+}
+
+/// The value of a register after the edge, and the old one for other nodes.
+fn next_of(circuit: &Circuit, values: &[Bits], row: &NodeRow, old: Bits) -> Bits
+    requires values { widths values.now ≡ node_widths circuit.now.nodes }
+    requires width { old.width ≡ row.now.width }
+    requires lawful { IsLawfulNode circuit.now row.now.width row.now.node }
+    ensures { result ≡ record { width = old.width; value = next_value (valuation values.now) [] row.now.node old.value } }
+{
+    match &row.node {
+        Node::Reg {
+            next,
+            enable,
+            clear,
+            init: _,
+        } => {
+            let kept = if is_enabled(circuit, values, *enable) {
+                operand(circuit, values, *next)
+            } else {
+                old
+            };
+            cleared(circuit, values, *clear, kept)
+        }
+        _ => old,
+    }
+}
+
+/// Steps the register of one node.
+fn step_register(circuit: &Circuit, values: &[Bits], registers: &mut [Bits], id: NodeId)
+    requires values { widths values.now ≡ node_widths circuit.now.nodes }
+    requires registers { widths registers.old ≡ node_widths circuit.now.nodes }
+    ensures value { registers.new ≡ replaced (next_register_at circuit.now values.now id.0) id.0 registers.old }
+    ensures widths { widths registers.new ≡ node_widths circuit.now.nodes }
+{
+    circuit.lawful();
+    if let Some(row) = circuit.nodes().get(id.0 as usize) {
+        let next = next_of(circuit, values, row, registers[id.0 as usize]);
+        registers[id.0 as usize] = next;
+    }
+}
+
+/// Steps the registers of these nodes.
+pub fn step_registers(circuit: &Circuit, order: &[NodeId], values: &[Bits], registers: &mut [Bits])
+    requires values { widths values.now ≡ node_widths circuit.now.nodes }
+    requires registers { widths registers.old ≡ node_widths circuit.now.nodes }
+    ensures value { registers.new ≡ next_registers circuit.now values.now order.now registers.old }
+    ensures widths { widths registers.new ≡ node_widths circuit.now.nodes }
+{
+    'order: for id in order {
+        step_register(circuit, values, registers, *id);
+    }
+}
+
+/// The initial value of a register, and the old one for other nodes.
+fn initial_of(row: &NodeRow, old: Bits) -> Bits
+    ensures { result ≡ initial_of row.now.node old }
+{
+    match &row.node {
+        Node::Reg { init, .. } => *init,
+        _ => old,
+    }
+}
+
+/// Puts the register of one node to its initial value.
+fn reset_register(circuit: &Circuit, registers: &mut [Bits], id: NodeId)
+    requires registers { widths registers.old ≡ node_widths circuit.now.nodes }
+    ensures value { registers.new ≡ replaced (initial_register_at circuit.now id.0) id.0 registers.old }
+    ensures widths { widths registers.new ≡ node_widths circuit.now.nodes }
+{
+    circuit.lawful();
+    if let Some(row) = circuit.nodes().get(id.0 as usize) {
+        let initial = initial_of(row, registers[id.0 as usize]);
+        registers[id.0 as usize] = initial;
+    }
+}
+
+/// Puts the registers of these nodes to their initial values.
+pub fn reset_registers(circuit: &Circuit, order: &[NodeId], registers: &mut [Bits])
+    requires registers { widths registers.old ≡ node_widths circuit.now.nodes }
+    ensures value { registers.new ≡ initial_registers circuit.now order.now registers.old }
+    ensures widths { widths registers.new ≡ node_widths circuit.now.nodes }
+{
+    'order: for id in order {
+        reset_register(circuit, registers, *id);
+    }
+}
+
+/// Takes one write port.
+fn write(circuit: &Circuit, values: &[Bits], port: &WritePort, words: &mut Words)
+    requires values { widths values.now ≡ node_widths circuit.now.nodes }
+    requires enable { port.now.enable.0 < length circuit.now.nodes }
+    requires addr { port.now.addr.0 < length circuit.now.nodes }
+    requires value { port.now.value.0 < length circuit.now.nodes }
+    ensures { words.new ≡ written circuit.now values.now port.now words.old }
+{
+    if is_one(circuit, values, port.enable) {
+        let place = operand(circuit, values, port.addr).value();
+        words.write(place, operand(circuit, values, port.value));
+    }
+}
+
+/// Takes the write ports of a memory, in order.
+fn write_all(circuit: &Circuit, values: &[Bits], memory: &Memory, words: &mut Words)
+    requires values { widths values.now ≡ node_widths circuit.now.nodes }
+    requires lawful { IsLawfulMemory circuit.now memory.now }
+    ensures { words.new ≡ written_all circuit.now values.now memory.now.writes words.old }
+{
+    let ports = memory.writes.as_slice();
+    'ports: for port in ports {
+        write(circuit, values, port, words);
+    }
+}
+
+/// Steps one memory.
+fn step_memory(circuit: &Circuit, values: &[Bits], memories: &mut [Words], id: MemId)
+    requires values { widths values.now ≡ node_widths circuit.now.nodes }
+    requires memories { map widths memories.old ≡ map memory_widths circuit.now.memories }
+    ensures value { memories.new ≡ replaced (next_words_at circuit.now values.now id.0) id.0 memories.old }
+    ensures widths { map widths memories.new ≡ map memory_widths circuit.now.memories }
+{
+    circuit.lawful();
+    if let Some(memory) = circuit.memories().get(id.0 as usize) {
+        write_all(circuit, values, memory, &mut memories[id.0 as usize]);
+    }
+}
+
+/// Steps these memories.
+pub fn step_memories(circuit: &Circuit, used: &[MemId], values: &[Bits], memories: &mut [Words])
+    requires values { widths values.now ≡ node_widths circuit.now.nodes }
+    requires memories { map widths memories.old ≡ map memory_widths circuit.now.memories }
+    ensures value { memories.new ≡ next_memories circuit.now values.now used.now memories.old }
+    ensures widths { map widths memories.new ≡ map memory_widths circuit.now.memories }
+{
+    'used: for id in used {
+        step_memory(circuit, values, memories, *id);
+    }
+}

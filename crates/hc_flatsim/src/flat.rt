@@ -1,0 +1,207 @@
+ghost use Rattle.std.specs.Prelude.{◌≡◌, ◌<◌, [], length, map, slice_get, slice_index, slice_set, IfOk, Some};
+ghost use Rattle.hc_bench.specs.Simulation as simulation;
+ghost use Rattle.hc_bench.specs.Steps.{IsPortValue};
+ghost use Rattle.hc_bench.specs.Trace.{IsAtStart};
+ghost use Rattle.hc_signal.specs.Checked.{IsChecked};
+ghost use Rattle.hc_signal.specs.Occurrences.{HasCombLoop};
+ghost use Rattle.hc_signal.specs.Tree.{graph, leaf};
+ghost use Rattle.hc_signal.specs.declared.signal.Port.{Port};
+ghost use Rattle.hc_flatsim.specs.Edges.{initial_registers, next_memories, next_registers};
+ghost use Rattle.hc_flatsim.specs.Machine.{simulation_of, HasNoOps, IsMachine};
+ghost use Rattle.hc_flatsim.specs.Settling.{given_of, operand, settled};
+
+use crate::edges::{reset_registers, step_memories, step_registers};
+use crate::make::{
+    initial_registers, used_memories, zeros_of_memories, zeros_of_nodes, zeros_of_ports,
+};
+use crate::settle::{note, settle};
+use crate::words::Words;
+use hc_bench::Sim;
+use hc_bits::Bits;
+use hc_fault::NoMemory;
+use hc_paths::make::schedule;
+use hc_signal::{Circuit, MemId, NodeId};
+use std::alloc::Global;
+use std::marker::Model;
+
+/// A simulator of a circuit without instances. It keeps a value for each node.
+#[derive(Drop)]
+pub struct FlatSim<'a> {
+    circuit: &'a Circuit,
+    // the nodes that the outputs reach, each after those that it is computed from
+    order: Vec<NodeId>,
+    // the memories that the outputs reach
+    used: Vec<MemId>,
+    values: Vec<Bits>,
+    // of each node that is a register its value
+    registers: Vec<Bits>,
+    memories: Vec<Words>,
+    inputs: Vec<Bits>,
+    before: Vec<Bits>,
+    after: Vec<Bits>,
+}
+
+impl<'a> Model for FlatSim<'a> {
+    ghost use Rattle.hc_flatsim.specs.Machine.{Machine, IsMachine};
+
+    ghost Value = { Machine };
+
+    ghost view = { λ s. record { graph = s.circuit.now; order = s.order.items; used = s.used.items; values = s.values.items; registers = s.registers.items; memories = s.memories.items; inputs = s.inputs.items; before = s.before.items; after = s.after.items } };
+
+    ghost invariant = { λ s. IsMachine (record { graph = s.circuit.now; order = s.order.items; used = s.used.items; values = s.values.items; registers = s.registers.items; memories = s.memories.items; inputs = s.inputs.items; before = s.before.items; after = s.after.items }) };
+}
+
+impl<'a> FlatSim<'a> {
+    /// A simulator at the start: registers have their initial values, words and inputs are 0.
+    pub fn new(alloc: Global, circuit: &'a Circuit) -> Result<FlatSim<'a>, NoMemory>
+        requires checked { IsChecked circuit.now }
+        requires instances { circuit.now.instances ≡ [] }
+        requires no_loop { ¬ HasCombLoop (leaf circuit.now) }
+        requires no_ops { HasNoOps circuit.now }
+        ensures tree { IfOk result (λ sim. (simulation_of sim).tree ≡ leaf circuit.now) }
+        ensures start { IfOk result (λ sim. IsAtStart (simulation_of sim)) }
+    {
+        circuit.lawful();
+        let order = match schedule(alloc, circuit) {
+            Ok(order) => order,
+            Err(_) => return Err(NoMemory),
+        };
+        let used = used_memories(alloc, circuit)?;
+        let values = zeros_of_nodes(alloc, circuit)?;
+        let registers = initial_registers(alloc, circuit, order.as_slice())?;
+        let memories = zeros_of_memories(alloc, circuit)?;
+        let ports = circuit.ports();
+        let inputs = zeros_of_ports(alloc, ports.inputs.as_slice())?;
+        let before = zeros_of_ports(alloc, ports.outputs.as_slice())?;
+        let after = zeros_of_ports(alloc, ports.outputs.as_slice())?;
+        Ok(FlatSim {
+            circuit,
+            order,
+            used,
+            values,
+            registers,
+            memories,
+            inputs,
+            before,
+            after,
+        })
+    }
+
+    /// The values settle.
+    fn settle(&mut self)
+        ensures { self.new ≡ record self.old { values = settled self.old.graph (given_of self.old) self.old.order self.old.values } }
+    {
+        settle(
+            self.circuit,
+            self.order.as_slice(),
+            self.registers.as_slice(),
+            self.memories.as_slice(),
+            self.inputs.as_slice(),
+            self.values.as_mut_slice(),
+        );
+    }
+
+    /// Notes the outputs as those before the edge.
+    fn note_before(&mut self)
+        ensures { self.new ≡ record self.old { before = map (operand self.old.graph self.old.values) self.old.graph.outputs } }
+    {
+        note(
+            self.circuit,
+            self.values.as_slice(),
+            self.before.as_mut_slice(),
+        );
+    }
+
+    /// Notes the outputs as those after the edge.
+    fn note_after(&mut self)
+        ensures { self.new ≡ record self.old { after = map (operand self.old.graph self.old.values) self.old.graph.outputs } }
+    {
+        note(
+            self.circuit,
+            self.values.as_slice(),
+            self.after.as_mut_slice(),
+        );
+    }
+
+    /// The clock edge: registers and memories take what the values give.
+    fn edge(&mut self)
+        ensures { self.new ≡ record self.old { registers = next_registers self.old.graph self.old.values self.old.order self.old.registers; memories = next_memories self.old.graph self.old.values self.old.used self.old.memories } }
+    {
+        step_registers(
+            self.circuit,
+            self.order.as_slice(),
+            self.values.as_slice(),
+            self.registers.as_mut_slice(),
+        );
+        step_memories(
+            self.circuit,
+            self.used.as_slice(),
+            self.values.as_slice(),
+            self.memories.as_mut_slice(),
+        );
+    }
+
+    /// Each simulator keeps this.
+    fn machine(&self)
+        ensures { IsMachine self.now }
+    {
+        let _ = &self.order;
+    }
+
+    /// Sets an input.
+    fn put(&mut self, port: u32, value: Bits)
+        requires { IsPortValue self.old.graph.ports.inputs port value }
+        ensures { self.new ≡ record self.old { inputs = slice_set self.old.inputs port value } }
+    {
+        self.inputs[port as usize] = value;
+    }
+
+    /// Puts each register to its initial value.
+    fn restart(&mut self)
+        ensures { self.new ≡ record self.old { registers = initial_registers self.old.graph self.old.order self.old.registers } }
+    {
+        reset_registers(
+            self.circuit,
+            self.order.as_slice(),
+            self.registers.as_mut_slice(),
+        );
+    }
+}
+
+impl<'a> Sim for FlatSim<'a> {
+    ghost runs = { λ sim. simulation_of sim };
+
+    fn lawful(&self) {
+        self.machine();
+    }
+
+    fn set(&mut self, port: u32, value: Bits) {
+        self.put(port, value);
+    }
+
+    fn cycle(&mut self) {
+        self.machine();
+        self.settle();
+        self.note_before();
+        self.machine();
+        self.edge();
+        self.machine();
+        self.settle();
+        self.note_after();
+    }
+
+    fn reset(&mut self) {
+        self.machine();
+        self.restart();
+    }
+
+    fn before(&self, port: u32) -> Bits {
+        let outputs = self.before.as_slice();
+        outputs[port as usize]
+    }
+
+    fn after(&self, port: u32) -> Bits {
+        let outputs = self.after.as_slice();
+        outputs[port as usize]
+    }
+}

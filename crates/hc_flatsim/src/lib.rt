@@ -1,0 +1,14 @@
+//! Simulation of a circuit without instances: the values of all nodes, cycle after cycle.
+#![tactic(auto)]
+
+mod compute;
+mod edges;
+mod flat;
+mod make;
+mod operands;
+mod ops;
+mod settle;
+mod words;
+
+pub use flat::FlatSim;
+pub use ops::has_no_ops;

@@ -1,0 +1,73 @@
+//! The values of all nodes that the outputs reach.
+ghost use Rattle.std.specs.Prelude.{◌≡◌, length, map, slice_get};
+ghost use Rattle.hc_flatsim.specs.Machine.{node_widths, port_widths, widths};
+ghost use Rattle.hc_flatsim.specs.Settling.{operand, settled, with_row, IsGiven};
+
+use crate::compute::compute;
+use crate::operands::operand;
+use crate::words::Words;
+use hc_bits::Bits;
+use hc_signal::{Circuit, NodeId};
+
+/// Computes the value of one node.
+fn settle_node(
+    circuit: &Circuit,
+    registers: &[Bits],
+    memories: &[Words],
+    inputs: &[Bits],
+    values: &mut [Bits],
+    id: NodeId,
+)
+    requires given { IsGiven circuit.now (record { registers = registers.now; memories = memories.now; inputs = inputs.now }) }
+    requires values { widths values.old ≡ node_widths circuit.now.nodes }
+    ensures value { values.new ≡ with_row circuit.now (record { registers = registers.now; memories = memories.now; inputs = inputs.now }) values.old id.0 (slice_get circuit.now.nodes id.0) }
+    ensures widths { widths values.new ≡ node_widths circuit.now.nodes }
+{
+    if let Some(row) = circuit.nodes().get(id.0 as usize) {
+        let value = compute(circuit, registers, memories, inputs, values, id, row);
+        values[id.0 as usize] = value;
+    }
+}
+
+/// Computes the values of these nodes, in this order.
+pub fn settle(
+    circuit: &Circuit,
+    order: &[NodeId],
+    registers: &[Bits],
+    memories: &[Words],
+    inputs: &[Bits],
+    values: &mut [Bits],
+)
+    requires given { IsGiven circuit.now (record { registers = registers.now; memories = memories.now; inputs = inputs.now }) }
+    requires values { widths values.old ≡ node_widths circuit.now.nodes }
+    ensures value { values.new ≡ settled circuit.now (record { registers = registers.now; memories = memories.now; inputs = inputs.now }) order.now values.old }
+    ensures widths { widths values.new ≡ node_widths circuit.now.nodes }
+{
+    'order: for id in order {
+        settle_node(circuit, registers, memories, inputs, values, *id);
+    }
+}
+
+/// Notes the values of outputs.
+fn note_values(circuit: &Circuit, values: &[Bits], to: &mut [Bits])
+    requires values { widths values.now ≡ node_widths circuit.now.nodes }
+    requires many { length to.old ≡ length circuit.now.outputs }
+    ensures { to.new ≡ map (operand circuit.now values.now) circuit.now.outputs }
+{
+    circuit.lawful();
+    let outputs = circuit.outputs();
+    'outputs: for k in 0..outputs.len() {
+        to[k] = operand(circuit, values, outputs[k]);
+    }
+}
+
+/// Notes the values of outputs in place of others.
+pub fn note(circuit: &Circuit, values: &[Bits], to: &mut [Bits])
+    requires values { widths values.now ≡ node_widths circuit.now.nodes }
+    requires widths { widths to.old ≡ port_widths circuit.now.ports.outputs }
+    ensures value { to.new ≡ map (operand circuit.now values.now) circuit.now.outputs }
+    ensures widths { widths to.new ≡ port_widths circuit.now.ports.outputs }
+{
+    circuit.lawful();
+    note_values(circuit, values, to);
+}

@@ -29,3 +29,25 @@ assign q read(store,head)
 assign empty eq(count,const(bits(depth),0))
 assign full eq(count,const(bits(depth),depth))
 top fifo 8 16
+bench
+set push 1
+set data 8'h11
+cycle
+set data 8'h22
+cycle
+set data 8'h33
+set pop 1
+cycle
+set push 0
+cycle
+cycle
+cycle
+set pop 0
+set push 1
+set data 8'h44
+cycle 16
+set pop 1
+set data 8'h55
+cycle
+cycle
+end

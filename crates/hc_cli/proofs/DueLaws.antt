@@ -1,48 +1,54 @@
 -- What was prepared is what is due, and nothing else is due.
 use Rattle.std.proofs.Common.{ℕ, ◌≡◌, ◌≤◌, ◌<◌, ◌+◌, Bool, true, false, List, [], ◌∷◌, length, refl, sym, ap, ap₂, ◌∙◌, subst, arith, replicate}
 use Rattle.std.proofs.lemmas.List.{length-replicate}
-use Rattle.std.specs.Prelude.{Option, Some, None, Result, Ok, Err, IfOk}
+use Rattle.std.specs.Prelude.{Option, Some, None, Result, Ok, Err, IfOk, codes}
 use Rattle.std.proofs.lemmas.Result.{IfOk-weaker}
 use Rattle.hc_fault.specs.declared.memory.NoMemory.{NoMemory}
 use Rattle.hc_fault.specs.declared.fault.Refused.{Refused}
 use Rattle.hc_fault.specs.declared.fault.Refused.TheVariants as refusals
 use Rattle.hc_elab.specs.Calls.{FaultIs}
-use Rattle.hc_lang.specs.declared.tree.BenchLine.{BenchLine}
-use Rattle.hc_cli.specs.declared.verilog.Verilog.{Verilog}
-use Rattle.hc_cli.specs.Histories.{IsHistoryOf}
-use Rattle.hc_cli.specs.OpUse.{holds_op}
 use Rattle.hc_fault.specs.declared.fault.Fault.{Fault}
 use Rattle.hc_fault.specs.declared.fault.FaultKind.{FaultKind}
 use Rattle.hc_fault.specs.declared.fault.FaultKind.TheVariants.{TooLong}
 use Rattle.hc_outside.specs.Moves.{Holds, LongerThan}
 use Rattle.hc_words.specs.declared.job.Job.{Job}
+use Rattle.hc_words.specs.declared.job.Verb.{Verb}
 use Rattle.hc_words.specs.Jobs.{HasNoJob, IsJob}
-use Rattle.hc_signal.specs.Tree.{Tree}
+use Rattle.hc_signal.specs.Tree.{Tree, IsWhole, graph}
+use Rattle.hc_signal.specs.Occurrences.{HasCombLoop}
 use Rattle.hc_lang.specs.declared.tree.Design.{Design}
 use Rattle.hc_lang.specs.Reads.{Answers, AtMostOne, NotBoth, OneFault, ParsesTo}
+use Rattle.hc_bench.specs.declared.kinds.Step.{Step}
+use Rattle.hc_bench.specs.Listing.{CycleRow}
+use Rattle.hc_bench.specs.Steps.{steps_of}
+use Rattle.hc_bench.specs.Trace.{IsRun}
 use Rattle.hc_elab.specs.Elaborates.{DesignElaborates, Elaborated}
-use Rattle.hc_modules.specs.VerilogText.{IsVerilog}
-use Rattle.hc_names.specs.Naming.{NamedTree}
+use Rattle.hc_output.specs.Output.{IsOutput}
+use Rattle.hc_output.specs.Prepared.{HasOutput, IsReady}
+use Rattle.hc_output.specs.declared.kinds.Output.{Output}
+use Rattle.hc_cli.specs.declared.prepared.Kept.{Kept}
 use Rattle.hc_cli.specs.declared.prepared.Prepared.{Prepared}
 use Rattle.hc_cli.specs.declared.prepared.Prepared.TheVariants as is
 use Rattle.hc_cli.specs.Clauses.{EndsInput}
-use Rattle.hc_cli.specs.Due.{Due, IsDesignDue, IsDue, IsTextDue, asked, benched, broken, faulty, named_calls, not_built, operation, parsed, refusal, refused, text_fault, told, too_long, verilog, whole}
-use Rattle.hc_cli.specs.Prepared.{IsToldOf, Serves, ServesDesign, ServesInput, ServesLeft, ServesText, history_behind}
+use Rattle.hc_cli.specs.Due.{Due, IsDesignDue, IsDue, IsTextDue, asked, bench_broken, broken, done, faulty, not_built, operation, parsed, refusal, refused, text_fault, told, too_long, whole}
+use Rattle.hc_cli.specs.Histories.{IsHistoryOf}
+use Rattle.hc_cli.specs.OpUse.{holds_op}
+use Rattle.hc_cli.specs.Prepared.{IsToldOf, Serves, ServesDesign, ServesInput, ServesLeft, ServesText, history_in}
 use Rattle.hc_cli.proofs.Kept.{no_calls}
 
 -- ---- what serves what is due
 
 pub serves_refusal : Serves is.Refusal refusal
-serves_refusal = record { status = refl; out = refl; history = no_calls }
+serves_refusal = record { status = refl; out = refl; history = no_calls; ready = tt }
 
-pub serves_told : (f : Fault) → Serves (is.Told f) (told f)
-serves_told f = record { status = refl; out = refl; history = no_calls }
+pub serves_told : (f : Fault) → Serves (is.Told f) (told f [])
+serves_told f = record { status = refl; out = refl; history = no_calls; ready = tt }
 
 pub serves_not_built : Serves is.NotBuilt not_built
-serves_not_built = record { status = refl; out = refl; history = no_calls }
+serves_not_built = record { status = refl; out = refl; history = no_calls; ready = tt }
 
-pub long_text : (text : List ℕ) → 4194304 < length text → ServesText text (is.Told (text_fault TooLong 0))
-long_text text long = (told (text_fault TooLong 0), too_long long, serves_told (text_fault TooLong 0))
+pub long_text : (job : Job) (text : List ℕ) → 4194304 < length text → ServesText job text (is.Told (text_fault TooLong 0))
+long_text job text long = (told (text_fault TooLong 0) [], too_long long, serves_told (text_fault TooLong 0))
 
 pub refused_left : (words : List (List ℕ)) (left : Option (List ℕ)) → HasNoJob words → ServesLeft words left is.Refusal
 refused_left words None none = ([], refusal, tt, refused none, serves_refusal)
@@ -51,59 +57,57 @@ refused_left words (Some text) none = (text, refusal, refl, refused none, serves
 long_one : (n : ℕ) → (text : List ℕ) × (n < length text)
 long_one n = (replicate (n + 1) 32, let l : length (replicate (n + 1) 32) ≡ n + 1 = length-replicate {A = ℕ} (n + 1) 32 in omega (arith, l))
 
-long_input : (n : ℕ) (left : Option (List ℕ)) (p : Prepared) → LongerThan left n → ((text : List ℕ) → n < length text → ServesText text p) → ServesInput left p
-long_input n None p long serves = let text = long_one n in let s = serves text.0 text.1 in (text.0, s.0, tt, s.1, s.2)
-long_input n (Some text) p long serves = let s = serves text long in (text, s.0, refl, s.1, s.2)
+long_input : (n : ℕ) (job : Job) (left : Option (List ℕ)) (p : Prepared) → LongerThan left n → ((text : List ℕ) → n < length text → ServesText job text p) → ServesInput job left p
+long_input n job None p long serves = let text = long_one n in let s = serves text.0 text.1 in (text.0, s.0, tt, s.1, s.2)
+long_input n job (Some text) p long serves = let s = serves text long in (text, s.0, refl, s.1, s.2)
 
-pub long_left : (left : Option (List ℕ)) (p : Prepared) → LongerThan left 4194304 → ((text : List ℕ) → 4194304 < length text → ServesText text p) → ServesInput left p
-long_left left p long serves = long_input 4194304 left p long serves
+pub long_left : (job : Job) (left : Option (List ℕ)) (p : Prepared) → LongerThan left 4194304 → ((job : Job) (text : List ℕ) → 4194304 < length text → ServesText job text p) → ServesInput job left p
+long_left job left p long serves = long_input 4194304 job left p long (serves job)
 
 pub long_ends : (old new : Option (List ℕ)) → LongerThan old 4194304 → EndsInput old new
 long_ends None new long = tt
 long_ends (Some text) new long = λ fits. absurd (omega (arith, long, fits))
 
-pub text_input : (left : Option (List ℕ)) (text : List ℕ) (p : Prepared) → Holds left text → ServesText text p → ServesInput left p
-text_input left text p holds s = (text, s.0, holds, s.1, s.2)
+pub text_input : (job : Job) (left : Option (List ℕ)) (text : List ℕ) (p : Prepared) → Holds left text → ServesText job text p → ServesInput job left p
+text_input job left text p holds s = (text, s.0, holds, s.1, s.2)
 
-pub asked_left : (words : List (List ℕ)) (left : Option (List ℕ)) (job : Job) (p : Prepared) → IsJob words job → ServesInput left p → ServesLeft words left p
+pub asked_left : (words : List (List ℕ)) (left : Option (List ℕ)) (job : Job) (p : Prepared) → IsJob words job → ServesInput job left p → ServesLeft words left p
 asked_left words left job p j s = (s.0, s.1, s.2, asked job j s.3, s.4)
 
 -- ---- designs
 
-pub serves_operation : (d : Design) → holds_op d ≡ true → ServesDesign d is.NotBuilt
-serves_operation d holds = (not_built, operation holds, serves_not_built)
+pub serves_operation : (job : Job) (d : Design) → holds_op d ≡ true → ServesDesign job d is.NotBuilt
+serves_operation job d holds = (not_built, operation holds, serves_not_built)
 
-pub serves_bench : (d : Design) (e : Elaborated) → holds_op d ≡ false → DesignElaborates d (Ok e) → (d.bench ≡ [] → ⊥) → ServesDesign d is.NotBuilt
-serves_bench d e none elaborates some = by d.bench refl
+pub serves_bench : (job : Job) (d : Design) (e : Elaborated) (f : Fault) (k : Kept) → holds_op d ≡ false → DesignElaborates d (Ok e) → steps_of d (graph e.tree).ports ≡ Err f → IsHistoryOf (history_in k) e.calls → ServesDesign job d (is.BenchTold f k)
+serves_bench job d e f k none elaborates fault history = (told f e.calls, bench_broken e f none elaborates fault, record { status = refl; out = refl; history = history; ready = tt })
+
+pub serves_whole : (job : Job) (d : Design) (e : Elaborated) (steps : List Step) (o : Output) (k : Kept) → holds_op d ≡ false → DesignElaborates d (Ok e) → IsWhole e.tree → steps_of d (graph e.tree).ports ≡ Ok steps
+    → HasOutput job.verb job.flat d.top.name e steps o → IsReady o → IsHistoryOf (history_in k) e.calls → ServesDesign job d (is.Whole o k)
+serves_whole job d e steps o k none elaborates tree given (rows, out, run, output, text) ready history =
+    (done e.calls out, whole e steps rows out none elaborates tree given run output, record { status = refl; out = text; history = history; ready = ready })
+
+pub serves_broken : (job : Job) (d : Design) (r : Refused) (result : Result Prepared NoMemory) → holds_op d ≡ false → FaultIs (λ f. DesignElaborates d (Err f)) r → IfOk result (IsToldOf r) → IfOk result (ServesDesign job d)
+serves_broken job d r result none fault are = IfOk-weaker result _ _ (λ p told_of. by r p fault told_of) are
   where
-    by : (steps : List BenchLine) → d.bench ≡ steps → ServesDesign d is.NotBuilt
-    by [] same = absurd (some same)
-    by (step ∷ steps) same = (not_built, benched e step steps none elaborates same, serves_not_built)
-
-pub serves_whole : (d : Design) (e : Elaborated) (v : Verilog) → holds_op d ≡ false → DesignElaborates d (Ok e) → d.bench ≡ [] → IsVerilog e.tree (named_calls e.calls) v.text.items → IsHistoryOf (history_behind v) e.calls → ServesDesign d (is.Whole v)
-serves_whole d e v none elaborates empty text history = (verilog e.calls v.text.items, whole e v.text.items none elaborates empty text, record { status = refl; out = refl; history = history })
-
-pub serves_broken : (d : Design) (r : Refused) (result : Result Prepared NoMemory) → holds_op d ≡ false → FaultIs (λ f. DesignElaborates d (Err f)) r → IfOk result (IsToldOf r) → IfOk result (ServesDesign d)
-serves_broken d r result none fault are = IfOk-weaker result _ _ (λ p told_of. by r p fault told_of) are
-  where
-    by : (r : Refused) (p : Prepared) → FaultIs (λ f. DesignElaborates d (Err f)) r → IsToldOf r p → ServesDesign d p
-    by (refusals.Fault f) p fault same = subst (ServesDesign d) (sym same) (told f, broken f none fault, serves_told f)
+    by : (r : Refused) (p : Prepared) → FaultIs (λ f. DesignElaborates d (Err f)) r → IsToldOf r p → ServesDesign job d p
+    by (refusals.Fault f) p fault same = subst (ServesDesign job d) (sym same) (told f [], broken f none fault, serves_told f)
     by refusals.NoMemory p fault same = absurd same
 
 -- ---- texts
 
-pub serves_parsed : (text : List ℕ) (d : Design) (p : Prepared) → length text ≤ 4194304 → ParsesTo text d → ServesDesign d p → ServesText text p
-serves_parsed text d p fits parses s = (s.0, parsed d fits parses s.1, s.2)
+pub serves_parsed : (job : Job) (text : List ℕ) (d : Design) (p : Prepared) → length text ≤ 4194304 → ParsesTo text d → ServesDesign job d p → ServesText job text p
+serves_parsed job text d p fits parses s = (s.0, parsed d fits parses s.1, s.2)
 
 no_path : (f : Fault) → f.path ≡ None → f ≡ text_fault f.kind f.line
 no_path f e = grind arith
 
-pub serves_faulty : (text : List ℕ) (r : Refused) (result : Result Prepared NoMemory) → length text ≤ 4194304 → Answers text (Err r) → IfOk result (IsToldOf r) → IfOk result (ServesText text)
-serves_faulty text r result fits answer are = IfOk-weaker result _ _ (λ p told_of. by r p answer told_of) are
+pub serves_faulty : (job : Job) (text : List ℕ) (r : Refused) (result : Result Prepared NoMemory) → length text ≤ 4194304 → Answers text (Err r) → IfOk result (IsToldOf r) → IfOk result (ServesText job text)
+serves_faulty job text r result fits answer are = IfOk-weaker result _ _ (λ p told_of. by r p answer told_of) are
   where
-    by : (r : Refused) (p : Prepared) → Answers text (Err r) → IsToldOf r p → ServesText text p
+    by : (r : Refused) (p : Prepared) → Answers text (Err r) → IsToldOf r p → ServesText job text p
     by (refusals.Fault f) p answer same =
-        subst (ServesText text) (sym (same ∙ ap is.Told (no_path f answer.1))) (told (text_fault f.kind f.line), faulty f.kind f.line fits answer.0, serves_told (text_fault f.kind f.line))
+        subst (ServesText job text) (sym (same ∙ ap is.Told (no_path f answer.1))) (told (text_fault f.kind f.line) [], faulty f.kind f.line fits answer.0, serves_told (text_fault f.kind f.line))
     by refusals.NoMemory p answer same = absurd same
 
 -- ---- at most one is due
@@ -120,51 +124,79 @@ ok_is x y e = cc
 err_is : {A F : Type 0} (x y : F) → ◌≡◌ {A = Result A F} (Err x) (Err y) → x ≡ y
 err_is x y e = cc
 
-no_steps : {X : Type 0} (xs : List X) (y : X) (ys : List X) → xs ≡ [] → xs ≡ y ∷ ys → ⊥
-no_steps xs y ys a b = cc
-
-module _ (one_design : AtMostOne) (one_fault : OneFault) (not_two : NotBoth)
+module _ (one_job : (words : List (List ℕ)) (a b : Job) → IsJob words a → IsJob words b → a ≡ b) (one_design : AtMostOne) (one_fault : OneFault) (not_two : NotBoth)
     (elaborates_once : (d : Design) (r s : Result Elaborated Fault) → DesignElaborates d r → DesignElaborates d s → r ≡ s)
-    (one_text : (top : Tree) (calls : List NamedTree) (a b : List ℕ) → IsVerilog top calls a → IsVerilog top calls b → a ≡ b) where
-  whole_once : (d : Design) (e g : Elaborated) (a b : List ℕ) → DesignElaborates d (Ok e) → DesignElaborates d (Ok g) → IsVerilog e.tree (named_calls e.calls) a → IsVerilog g.tree (named_calls g.calls) b → verilog e.calls a ≡ verilog g.calls b
-  whole_once d e g a b x y v w =
-      let same : e ≡ g = ok_is e g (elaborates_once d (Ok e) (Ok g) x y) in
-      let text : a ≡ b = one_text g.tree (named_calls g.calls) a b (subst (λ (e : Elaborated). IsVerilog e.tree (named_calls e.calls) a) same v) w in
-      ap₂ (λ (e : Elaborated) (t : List ℕ). verilog e.calls t) same text
+    (free : (d : Design) (e : Elaborated) → DesignElaborates d (Ok e) → ¬ HasCombLoop e.tree)
+    (one_run : (t : Tree) → IsWhole t → ¬ HasCombLoop t → (steps : List Step) (rows others : List CycleRow) → IsRun t steps rows → IsRun t steps others → rows ≡ others)
+    (one_output : (verb : Verb) (flat : Bool) (title : List ℕ) (e : Elaborated) (rows : List CycleRow) (a b : List ℕ) → IsWhole e.tree → IsOutput verb flat title e rows a → IsOutput verb flat title e rows b → a ≡ b) where
+  -- one output of one elaborated design
+  outputs_once : (job : Job) (d : Design) (e : Elaborated) (steps others : List Step) (rows more : List CycleRow) (a b : List ℕ) → DesignElaborates d (Ok e) → IsWhole e.tree
+      → steps_of d (graph e.tree).ports ≡ Ok steps → steps_of d (graph e.tree).ports ≡ Ok others → IsRun e.tree steps rows → IsRun e.tree others more
+      → IsOutput job.verb job.flat d.top.name e rows a → IsOutput job.verb job.flat d.top.name e more b → a ≡ b
+  outputs_once job d e steps others rows more a b x whole s t run ran o p =
+      let same : steps ≡ others = ok_is steps others (sym s ∙ t) in
+      let rows_same : rows ≡ more = one_run e.tree whole (free d e x) others rows more (subst (λ (l : List Step). IsRun e.tree l rows) same run) ran in
+      one_output job.verb job.flat d.top.name e more a b whole (subst (λ (l : List CycleRow). IsOutput job.verb job.flat d.top.name e l a) rows_same o) p
 
-  design_once : (d : Design) (x y : Due) → IsDesignDue d x → IsDesignDue d y → x ≡ y
-  design_once d x y (operation a) (operation b) = refl
-  design_once d x y (operation a) (broken f b m) = absurd (not_both _ a b)
-  design_once d x y (operation a) (benched e s ss b m n) = refl
-  design_once d x y (operation a) (whole e out b m n v) = absurd (not_both _ a b)
-  design_once d x y (broken f a k) (operation b) = absurd (not_both _ b a)
-  design_once d x y (broken f a k) (broken g b m) = ap told (err_is f g (elaborates_once d (Err f) (Err g) k m))
-  design_once d x y (broken f a k) (benched e s ss b m n) = absurd (ok_err e f (elaborates_once d (Ok e) (Err f) m k))
-  design_once d x y (broken f a k) (whole e out b m n v) = absurd (ok_err e f (elaborates_once d (Ok e) (Err f) m k))
-  design_once d x y (benched e s ss a k l) (operation b) = refl
-  design_once d x y (benched e s ss a k l) (broken f b m) = absurd (ok_err e f (elaborates_once d (Ok e) (Err f) k m))
-  design_once d x y (benched e s ss a k l) (benched g t ts b m n) = refl
-  design_once d x y (benched e s ss a k l) (whole g out b m n v) = absurd (no_steps _ s ss n l)
-  design_once d x y (whole e out a k l u) (operation b) = absurd (not_both _ b a)
-  design_once d x y (whole e out a k l u) (broken f b m) = absurd (ok_err e f (elaborates_once d (Ok e) (Err f) k m))
-  design_once d x y (whole e out a k l u) (benched g s ss b m n) = absurd (no_steps _ s ss l n)
-  design_once d x y (whole e out a k l u) (whole g other b m n v) = whole_once d e g out other k m u v
+  same_design : (d : Design) (e g : Elaborated) → DesignElaborates d (Ok e) → DesignElaborates d (Ok g) → e ≡ g
+  same_design d e g x y = ok_is e g (elaborates_once d (Ok e) (Ok g) x y)
 
-  text_once : (text : List ℕ) (x y : Due) → IsTextDue text x → IsTextDue text y → x ≡ y
-  text_once text x y (too_long a) (too_long b) = refl
-  text_once text x y (too_long a) (faulty k n b f) = absurd (omega (arith, a, b))
-  text_once text x y (too_long a) (parsed d b p due) = absurd (omega (arith, a, b))
-  text_once text x y (faulty k n a f) (too_long b) = absurd (omega (arith, a, b))
-  text_once text x y (faulty k n a f) (faulty j m b g) = let same = one_fault text k j n m f g in ap₂ (λ (kind : FaultKind) (line : ℕ). told (text_fault kind line)) same.0 same.1
-  text_once text x y (faulty k n a f) (parsed d b p due) = absurd (not_two text d k n p f)
-  text_once text x y (parsed d a p due) (too_long b) = absurd (omega (arith, a, b))
-  text_once text x y (parsed d a p due) (faulty k n b f) = absurd (not_two text d k n p f)
-  text_once text x y (parsed d a p due) (parsed e b q other) =
+  told_once : (d : Design) (e g : Elaborated) (f h : Fault) → DesignElaborates d (Ok e) → DesignElaborates d (Ok g) → steps_of d (graph e.tree).ports ≡ Err f → steps_of d (graph g.tree).ports ≡ Err h → told f e.calls ≡ told h g.calls
+  told_once d e g f h x y a b =
+      let same : e ≡ g = same_design d e g x y in
+      let here : steps_of d (graph g.tree).ports ≡ Err f = subst (λ (k : Elaborated). steps_of d (graph k.tree).ports ≡ Err f) same a in
+      ap₂ (λ (k : Fault) (l : Elaborated). told k l.calls) (err_is f h (sym here ∙ b)) same
+
+  not_mixed : (d : Design) (e g : Elaborated) (f : Fault) (steps : List Step) → DesignElaborates d (Ok e) → DesignElaborates d (Ok g) → steps_of d (graph e.tree).ports ≡ Err f → steps_of d (graph g.tree).ports ≡ Ok steps → ⊥
+  not_mixed d e g f steps x y a b =
+      let here : steps_of d (graph g.tree).ports ≡ Err f = subst (λ (k : Elaborated). steps_of d (graph k.tree).ports ≡ Err f) (same_design d e g x y) a in
+      ok_err steps f (sym b ∙ here)
+
+  whole_once : (job : Job) (d : Design) (e g : Elaborated) (steps others : List Step) (rows more : List CycleRow) (a b : List ℕ) → DesignElaborates d (Ok e) → DesignElaborates d (Ok g) → IsWhole g.tree
+      → steps_of d (graph e.tree).ports ≡ Ok steps → steps_of d (graph g.tree).ports ≡ Ok others → IsRun e.tree steps rows → IsRun g.tree others more
+      → IsOutput job.verb job.flat d.top.name e rows a → IsOutput job.verb job.flat d.top.name g more b → done e.calls a ≡ done g.calls b
+  whole_once job d e g steps others rows more a b x y whole s t run ran o p =
+      let same : e ≡ g = same_design d e g x y in
+      let given : steps_of d (graph g.tree).ports ≡ Ok steps = subst (λ (k : Elaborated). steps_of d (graph k.tree).ports ≡ Ok steps) same s in
+      let rows_here : IsRun g.tree steps rows = subst (λ (k : Elaborated). IsRun k.tree steps rows) same run in
+      let out_here : IsOutput job.verb job.flat d.top.name g rows a = subst (λ (k : Elaborated). IsOutput job.verb job.flat d.top.name k rows a) same o in
+      ap₂ (λ (k : Elaborated) (l : List ℕ). done k.calls l) same (outputs_once job d g steps others rows more a b y whole given t rows_here ran out_here p)
+
+  design_once : (job : Job) (d : Design) (x y : Due) → IsDesignDue job d x → IsDesignDue job d y → x ≡ y
+  design_once job d x y (operation a) (operation b) = refl
+  design_once job d x y (operation a) (broken f b m) = absurd (not_both _ a b)
+  design_once job d x y (operation a) (bench_broken e f b m n) = absurd (not_both _ a b)
+  design_once job d x y (operation a) (whole e s r o b m w n u v) = absurd (not_both _ a b)
+  design_once job d x y (broken f a k) (operation b) = absurd (not_both _ b a)
+  design_once job d x y (broken f a k) (broken g b m) = ap (λ (h : Fault). told h []) (err_is f g (elaborates_once d (Err f) (Err g) k m))
+  design_once job d x y (broken f a k) (bench_broken e g b m n) = absurd (ok_err e f (elaborates_once d (Ok e) (Err f) m k))
+  design_once job d x y (broken f a k) (whole e s r o b m w n u v) = absurd (ok_err e f (elaborates_once d (Ok e) (Err f) m k))
+  design_once job d x y (bench_broken e f a k l) (operation b) = absurd (not_both _ b a)
+  design_once job d x y (bench_broken e f a k l) (broken g b m) = absurd (ok_err e g (elaborates_once d (Ok e) (Err g) k m))
+  design_once job d x y (bench_broken e f a k l) (bench_broken g h b m n) = told_once d e g f h k m l n
+  design_once job d x y (bench_broken e f a k l) (whole g s r o b m w n u v) = absurd (not_mixed d e g f s k m l n)
+  design_once job d x y (whole e s r o a k w l u v) (operation b) = absurd (not_both _ b a)
+  design_once job d x y (whole e s r o a k w l u v) (broken f b m) = absurd (ok_err e f (elaborates_once d (Ok e) (Err f) k m))
+  design_once job d x y (whole e s r o a k w l u v) (bench_broken g f b m n) = absurd (not_mixed d g e f s m k n l)
+  design_once job d x y (whole e s r o a k w l u v) (whole g t q p b m z n i j) = whole_once job d e g s t r q o p k m z l n u i v j
+
+  text_once : (job : Job) (text : List ℕ) (x y : Due) → IsTextDue job text x → IsTextDue job text y → x ≡ y
+  text_once job text x y (too_long a) (too_long b) = refl
+  text_once job text x y (too_long a) (faulty k n b f) = absurd (omega (arith, a, b))
+  text_once job text x y (too_long a) (parsed d b p due) = absurd (omega (arith, a, b))
+  text_once job text x y (faulty k n a f) (too_long b) = absurd (omega (arith, a, b))
+  text_once job text x y (faulty k n a f) (faulty j m b g) = let same = one_fault text k j n m f g in ap₂ (λ (kind : FaultKind) (line : ℕ). told (text_fault kind line) []) same.0 same.1
+  text_once job text x y (faulty k n a f) (parsed d b p due) = absurd (not_two text d k n p f)
+  text_once job text x y (parsed d a p due) (too_long b) = absurd (omega (arith, a, b))
+  text_once job text x y (parsed d a p due) (faulty k n b f) = absurd (not_two text d k n p f)
+  text_once job text x y (parsed d a p due) (parsed e b q other) =
       let same : d ≡ e = one_design text d e p.reads q.reads in
-      design_once e x y (subst (λ (d : Design). IsDesignDue d x) same due) other
+      design_once job e x y (subst (λ (d : Design). IsDesignDue job d x) same due) other
 
   pub due_once : (words : List (List ℕ)) (text : List ℕ) (x y : Due) → IsDue words text x → IsDue words text y → x ≡ y
   due_once words text x y (refused a) (refused b) = refl
   due_once words text x y (refused a) (asked job j due) = absurd (a j.items j.spelling)
   due_once words text x y (asked job j due) (refused b) = absurd (b j.items j.spelling)
-  due_once words text x y (asked job j due) (asked other k more) = text_once text x y due more
+  due_once words text x y (asked job j due) (asked other k more) =
+      let same : job ≡ other = one_job words job other j k in
+      text_once other text x y (subst (λ (g : Job). IsTextDue g text x) same due) more

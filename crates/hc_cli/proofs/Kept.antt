@@ -1,5 +1,5 @@
 -- The history of an elaboration is that of its calls.
-use Rattle.std.proofs.Common.{◌≡◌, ◌≤◌, ◌<◌, ◌+◌, ℕ, zero, suc, Bool, true, false, cond, ◌==◌, List, [], ◌∷◌, ◌++◌, map, length, take, refl, sym, ap, ap₂, subst, ◌∙◌, arith}
+use Rattle.std.proofs.Common.{◌≡◌, ◌≤◌, ◌<◌, ◌+◌, ℕ, zero, suc, Bool, true, false, cond, ◌==◌, List, [], ◌∷◌, ◌++◌, map, length, take, refl, sym, ap, subst, ◌∙◌, arith}
 use Rattle.std.specs.Prelude.{Some, slice_get, ◌↔◌}
 use Rattle.std.proofs.lemmas.Bool.Decides.{Decides-eqb}
 use Rattle.std.proofs.lemmas.List.Sums.{sum_by-cons}
@@ -19,6 +19,8 @@ use Rattle.hc_dbstate.specs.Unfolding.{unfolding_of}
 use Rattle.hc_dbstate.proofs.Triples.{NameEntries, legal_names, log_is, some_at, triples, triples_step}
 use Rattle.hc_elab.specs.Elaborates.{Elaborated, ElaboratedCall}
 use Rattle.hc_elab.specs.Hierarchies.{AreCallsFor, IsCallFor, IsHierarchyFor, LogsWalk}
+use Rattle.hc_cli.specs.declared.prepared.Kept.{Kept}
+use Rattle.hc_cli.specs.Prepared.{history_in}
 use Rattle.hc_cli.specs.Histories.{AreTurnsOf, IsEntryOf, IsHistoryOf, IsOnce, no_history}
 
 abbrev entries_of : List Turn → List EntryId
@@ -142,12 +144,6 @@ history_is h hier e legal apart over for logs =
       only = only_named h legal;
     }
 
--- the entries and the turns of a history
-pub history_parts : (h : History) (entries : List FormView) (turns : List Turn) (calls : List ElaboratedCall) → entries ≡ h.entries → turns ≡ h.turns → IsHistoryOf h calls → IsHistoryOf (record { entries = entries; turns = turns }) calls
-history_parts h entries turns calls e t is =
-    let same : h ≡ record { entries = entries; turns = turns } = ap₂ (λ (es : List FormView) (ts : List Turn). let g : History = record { entries = es; turns = ts } in g) (sym e) (sym t) in
-    subst (λ (g : History). IsHistoryOf g calls) same is
-
 -- nothing is the history of no calls
 pub none_legal : IsLegal no_history
 none_legal = record {
@@ -165,3 +161,7 @@ no_calls = record {
   once = λ c h. elim h [ ];
   only = λ id lt. absurd (omega (arith, lt));
 }
+
+-- a history that is kept
+pub history_of_kept : (k : Kept) (h : History) (calls : List ElaboratedCall) → history_in k ≡ h → IsHistoryOf h calls → IsHistoryOf (history_in k) calls
+history_of_kept k h calls e is = subst (λ (g : History). IsHistoryOf g calls) (sym e) is

@@ -1,43 +1,57 @@
 -- What the program has prepared, as what is due.
-use Rattle.std.specs.Prelude.{◌≡◌, ℕ, List, [], Option}
+use Rattle.std.specs.Prelude.{◌≡◌, ℕ, false, List, [], Option}
 use Rattle.hc_fault.specs.declared.fault.Refused.{Refused}
 use Rattle.hc_fault.specs.declared.fault.Refused.TheVariants as refused
 use Rattle.hc_outside.specs.Moves.{Holds}
 use Rattle.hc_lang.specs.declared.tree.Design.{Design}
 use Rattle.hc_dbstate.specs.History.{History}
-use Rattle.hc_cli.specs.declared.verilog.Verilog.{Verilog}
+use Rattle.hc_output.specs.Prepared.{IsReady, IsTextOf}
+use Rattle.hc_words.specs.declared.job.Job.{Job}
+use Rattle.hc_cli.specs.declared.prepared.Kept.{Kept}
 use Rattle.hc_cli.specs.declared.prepared.Prepared.{Prepared}
 use Rattle.hc_cli.specs.declared.prepared.Prepared.TheVariants as is
-use Rattle.hc_cli.specs.Due.{Due, IsDesignDue, IsDue, IsTextDue, refusal, told}
+use Rattle.hc_cli.specs.Due.{Due, IsDesignDue, IsDue, IsTextDue, refusal}
+use Rattle.hc_cli.specs.FaultLine.{fault_line}
+use Rattle.hc_cli.specs.OpUse.{holds_op}
 use Rattle.hc_cli.specs.Histories.{IsHistoryOf, no_history}
 
--- the history behind a Verilog text
-abbrev pub history_behind : Verilog → History
-history_behind v = record { entries = v.entries.items; turns = v.turns.items }
+-- the history that is kept
+abbrev pub history_in : Kept → History
+history_in k = record { entries = k.entries.items; turns = k.turns.items }
 
 abbrev pub kept : Prepared → History
 kept is.Refusal = no_history
 kept (is.Told f) = no_history
 kept is.NotBuilt = no_history
-kept (is.Whole v) = history_behind v
+kept (is.BenchTold f k) = history_in k
+kept (is.Whole o k) = history_in k
 
 abbrev pub status_of : Prepared → ℕ
 status_of is.Refusal = 2
 status_of (is.Told f) = 1
 status_of is.NotBuilt = 6
-status_of (is.Whole v) = 0
+status_of (is.BenchTold f k) = 1
+status_of (is.Whole o k) = 0
 
-abbrev pub out_of : Prepared → List ℕ
-out_of is.Refusal = refusal.out
-out_of (is.Told f) = (told f).out
-out_of is.NotBuilt = []
-out_of (is.Whole v) = v.text.items
+-- these bytes are to be written
+abbrev pub IsOutOf : Prepared → List ℕ → Type 0
+IsOutOf is.Refusal out = out ≡ refusal.out
+IsOutOf (is.Told f) out = out ≡ fault_line f
+IsOutOf is.NotBuilt out = out ≡ []
+IsOutOf (is.BenchTold f k) out = out ≡ fault_line f
+IsOutOf (is.Whole o k) out = IsTextOf o out
+
+-- what is to be played can be
+abbrev pub CanSend : Prepared → Type 0
+CanSend (is.Whole o k) = IsReady o
+CanSend other = Unit {0}
 
 -- these are the status, the bytes and the history that are due
 pub record Serves (p : Prepared) (d : Due) : Type 0 where
   pub status : status_of p ≡ d.status
-  pub out : out_of p ≡ d.out
+  pub out : IsOutOf p d.out
   pub history : IsHistoryOf (kept p) d.calls
+  pub ready : CanSend p
 
 -- the end for a fault
 abbrev pub IsToldOf : Refused → Prepared → Type 0
@@ -45,14 +59,18 @@ IsToldOf (refused.Fault f) p = p ≡ is.Told f
 IsToldOf refused.NoMemory p = ⊥
 
 -- this serves what is due for a design; for a text; for what a source had left, or some text where it tells none
-abbrev pub ServesDesign : Design → Prepared → Type 0
-ServesDesign design p = (d : Due) × IsDesignDue design d × Serves p d
+abbrev pub ServesDesign : Job → Design → Prepared → Type 0
+ServesDesign job design p = (d : Due) × IsDesignDue job design d × Serves p d
 
-abbrev pub ServesText : List ℕ → Prepared → Type 0
-ServesText text p = (d : Due) × IsTextDue text d × Serves p d
+-- and so for a design without operations
+abbrev pub ServesElaborated : Job → Design → Prepared → Type 0
+ServesElaborated job design p = holds_op design ≡ false → ServesDesign job design p
 
-abbrev pub ServesInput : Option (List ℕ) → Prepared → Type 0
-ServesInput left p = (text : List ℕ) × (d : Due) × Holds left text × IsTextDue text d × Serves p d
+abbrev pub ServesText : Job → List ℕ → Prepared → Type 0
+ServesText job text p = (d : Due) × IsTextDue job text d × Serves p d
+
+abbrev pub ServesInput : Job → Option (List ℕ) → Prepared → Type 0
+ServesInput job left p = (text : List ℕ) × (d : Due) × Holds left text × IsTextDue job text d × Serves p d
 
 abbrev pub ServesLeft : List (List ℕ) → Option (List ℕ) → Prepared → Type 0
 ServesLeft words left p = (text : List ℕ) × (d : Due) × Holds left text × IsDue words text d × Serves p d

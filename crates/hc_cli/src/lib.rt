@@ -7,7 +7,6 @@ mod prepared;
 mod run;
 #[cfg(test)]
 mod tests;
-mod verilog;
 
 pub use fault_line::write_fault;
 pub use run::{Outcome, one_due, run_one};

@@ -6,26 +6,38 @@ ghost use Rattle.hc_cli.specs.declared.run.Stop.TheVariants as stop;
 ghost use Rattle.hc_cli.specs.Clauses.{EndsInput, EndsRead, ForDue, IsCut, IsDone, IsDueOrNoMemory, IsWritten, history_of};
 ghost use Rattle.hc_cli.specs.Due.{Due, IsDue};
 ghost use Rattle.hc_cli.specs.Histories.{no_history};
-ghost use Rattle.hc_cli.specs.Prepared.{IsToldOf, ServesDesign, ServesInput, ServesLeft, ServesText, kept, status_of};
+ghost use Rattle.hc_cli.specs.Prepared.{CanSend, IsToldOf, ServesDesign, ServesElaborated, ServesInput, ServesLeft, ServesText, history_in, kept, status_of};
+ghost use Rattle.hc_bench.specs.Answers.{Answers};
+ghost use Rattle.hc_bench.specs.Steps.{AreStepsFor, steps_of};
+ghost use Rattle.hc_dbstate.specs.Elaboration.{IsElaboration, hier_view};
 ghost use Rattle.hc_dbstate.specs.History.{IsLegal};
+ghost use Rattle.hc_dbstate.specs.Unfolding.{unfolding_of};
+ghost use Rattle.hc_elab.specs.Elaborates.{DesignElaborates, Elaborated};
+ghost use Rattle.hc_elab.specs.Hierarchies.{IsHierarchyFor, LogsWalk};
+ghost use Rattle.hc_output.specs.Output.{IsServed};
+ghost use Rattle.hc_output.specs.declared.send.SendStop.TheVariants as sent_stop;
+ghost use Rattle.hc_signal.specs.Tree.{graph};
+ghost use Rattle.hc_words.specs.Jobs.{IsJob};
 
 use crate::op_use::holds_op;
-use crate::prepared::{Prepared, send};
-use crate::verilog::verilog_of;
+use crate::prepared::{Kept, Prepared, kept_of, send};
+use hc_bench::make::bench;
+use hc_bench::kinds::Bench;
 use hc_canon::Form;
-use hc_dbstate::{DbState, Turn};
-use hc_elab::{designs_elaborate_once, elab_one};
+use hc_dbstate::{DbState, Hier, Turn, entries_unfold_once};
+use hc_elab::{designs_elaborate_once, elab_one, elaborated_trees};
 use hc_fault::{Fault, FaultKind, NoMemory, Refused};
 use hc_lang::{Design, parse, texts_have_one_answer};
-use hc_modules::texts_are_single;
-use hc_outside::{Failed, ReadStop, Sink, Source, read_all};
-use hc_words::{WordStop, read_words};
+use hc_outside::{ReadStop, Sink, Source, read_all};
+use hc_output::{SendStop, outputs_are_single, prepare_output};
+use hc_traces::runs_are_single;
+use hc_words::{Job, WordStop, one_job, read_words};
 use std::alloc::Global;
 
-/// How a run ended. The statuses: 0 the Verilog was written; 1 the text has a fault, and its line was written; 2 the words
-/// were refused, and the usage line was written; 3 the source failed; 4 the sink failed; 5 want of memory; 6 the text needs
-/// what is not built yet. The turns and the entries are those of the elaboration that a Verilog text is of: a turn for each
-/// call, in order, with its entry. Both are empty where no Verilog is due.
+/// How a run ended. The statuses: 0 what the command asks for was written; 1 the text has a fault, and its line was written;
+/// 2 the words were refused, and the usage line was written; 3 the source failed; 4 the sink failed; 5 want of memory; 6 the
+/// text needs what is not built yet. The turns and the entries are those of an elaboration without a fault: a turn for each
+/// call, in order, with its entry. Both are empty where there is none, and at 3 and 5.
 #[derive(Drop)]
 pub struct Outcome {
     pub status: u8,
@@ -53,49 +65,78 @@ fn told(refused: Refused) -> Result<Prepared, NoMemory>
     }
 }
 
-/// Whether a design has a bench.
-fn has_bench(design: &Design) -> bool
-    ensures some { result ≡ true → design.now.bench ≢ [] }
-    ensures none { result ≡ false → design.now.bench ≡ [] }
+/// The bench of a design, for the ports of the top of its hierarchy.
+fn bench_of(
+    alloc: Global,
+    design: &Design,
+    db: &DbState,
+    hier: &Hier,
+) -> Result<Bench, Refused>
+    requires { IsElaboration db.now.entries hier.now }
+    ensures answer { Answers (λ bench. bench.steps) result (steps_of design.now (graph (unfolding_of db.now.entries (hier_view hier.now).own.entry)).ports) }
+    ensures steps { IfOk result (λ bench. AreStepsFor (graph (unfolding_of db.now.entries (hier_view hier.now).own.entry)).ports.inputs bench.steps) }
 {
-    !design.bench.as_slice().is_empty()
+    db.legal();
+    let form = db.get(hier.entry);
+    form.canonical();
+    bench(alloc, design, form.circuit().ports())
+}
+
+/// What is prepared for a design with this hierarchy.
+fn prepare_elaborated(
+    alloc: Global,
+    job: &Job,
+    design: &Design,
+    db: DbState,
+    hier: &Hier,
+) -> Result<Prepared, NoMemory>
+    requires elaboration { IsElaboration db.entries hier.now }
+    requires served { IsServed job.now.verb }
+    ensures { IfOk result (λ p. (e : Elaborated) → DesignElaborates design.now (Ok e) → IsHierarchyFor db.entries hier.now e → LogsWalk no_history db hier.now → ServesElaborated job.now design.now p) }
+{
+    elaborated_trees();
+    entries_unfold_once();
+    db.legal();
+    match bench_of(alloc, design, &db, hier) {
+        Ok(bench) => {
+            let output = prepare_output(alloc, job.verb, job.flat, &design.top.name, &db, hier, bench)?;
+            Ok(Prepared::Whole(output, kept_of(db)))
+        }
+        Err(Refused::Fault(fault)) => Ok(Prepared::BenchTold(fault, kept_of(db))),
+        Err(Refused::NoMemory) => Err(NoMemory),
+    }
 }
 
 /// What is prepared for a design.
-fn prepare_design(alloc: Global, design: &Design) -> Result<Prepared, NoMemory>
-    ensures { IfOk result (ServesDesign design.now) }
+fn prepare_design(alloc: Global, job: &Job, design: &Design) -> Result<Prepared, NoMemory>
+    requires { IsServed job.now.verb }
+    ensures { IfOk result (ServesDesign job.now design.now) }
 {
     if holds_op(design) {
         return Ok(Prepared::NotBuilt);
     }
     let mut db = DbState::new(alloc);
-    let hier = match elab_one(alloc, design, &mut db) {
-        Ok(hier) => hier,
-        Err(refused) => return told(refused),
-    };
-    if has_bench(design) {
-        return Ok(Prepared::NotBuilt);
-    }
-    match verilog_of(alloc, db, &hier) {
-        Ok(verilog) => Ok(Prepared::Whole(verilog)),
-        Err(NoMemory) => Err(NoMemory),
+    match elab_one(alloc, design, &mut db) {
+        Ok(hier) => prepare_elaborated(alloc, job, design, db, &hier),
+        Err(refused) => told(refused),
     }
 }
 
 /// What is prepared for a text.
-fn prepare_text(alloc: Global, text: &[u8]) -> Result<Prepared, NoMemory>
-    requires { length text.now ≤ 4194304 }
-    ensures { IfOk result (ServesText text.now) }
+fn prepare_text(alloc: Global, job: &Job, text: &[u8]) -> Result<Prepared, NoMemory>
+    requires served { IsServed job.now.verb }
+    requires fits { length text.now ≤ 4194304 }
+    ensures { IfOk result (ServesText job.now text.now) }
 {
     match parse(alloc, text) {
-        Ok(design) => prepare_design(alloc, &design),
+        Ok(design) => prepare_design(alloc, job, &design),
         Err(refused) => told(refused),
     }
 }
 
 /// The fault of a text that is too long.
 fn too_long() -> Prepared
-    ensures { (text : List ℕ) → 4194304 < length text → ServesText text result }
+    ensures { (job : Job) (text : List ℕ) → 4194304 < length text → ServesText job text result }
 {
     Prepared::Told(Fault {
         kind: FaultKind::TooLong,
@@ -105,13 +146,14 @@ fn too_long() -> Prepared
 }
 
 /// Reads the input, and prepares what is due for it.
-fn prepare_input<S: Source>(alloc: Global, input: &mut S) -> Result<Prepared, Stop>
-    ensures due { IfOk result (ServesInput (S.left input.old)) }
+fn prepare_input<S: Source>(alloc: Global, job: &Job, input: &mut S) -> Result<Prepared, Stop>
+    requires { IsServed job.now.verb }
+    ensures due { IfOk result (ServesInput job.now (S.left input.old)) }
     ensures fault { IsErrOf result stop.Fault → Rose (S.faults input.old) (S.faults input.new) }
     ensures end { OnOk result (EndsInput (S.left input.old) (S.left input.new)) }
 {
     match read_all(alloc, input, LIMIT) {
-        Ok(text) => match prepare_text(alloc, &text) {
+        Ok(text) => match prepare_text(alloc, job, &text) {
             Ok(prepared) => Ok(prepared),
             Err(NoMemory) => Err(Stop::NoMemory),
         },
@@ -129,7 +171,7 @@ fn prepare<S: Source>(alloc: Global, words: &[String], input: &mut S) -> Result<
     ensures end { OnOk result (EndsRead (map string_bytes words.now) (S.left input.old) (S.left input.new)) }
 {
     match read_words(alloc, words) {
-        Ok(_) => prepare_input(alloc, input),
+        Ok(job) => prepare_input(alloc, &job, input),
         Err(WordStop::Words) => Ok(Prepared::Refusal),
         Err(WordStop::NoMemory) => Err(Stop::NoMemory),
     }
@@ -147,6 +189,18 @@ fn empty(alloc: Global, status: u8) -> Outcome
     }
 }
 
+/// An end that hands out this history.
+fn with_history(status: u8, kept: Kept) -> Outcome
+    ensures status { result.status ≡ status }
+    ensures history { history_of result ≡ history_in kept }
+{
+    Outcome {
+        status,
+        turns: kept.turns,
+        entries: kept.entries,
+    }
+}
+
 /// The end that was prepared.
 fn ended(alloc: Global, prepared: Prepared) -> Outcome
     ensures status { result.status ≡ status_of prepared }
@@ -156,26 +210,25 @@ fn ended(alloc: Global, prepared: Prepared) -> Outcome
         Prepared::Refusal => empty(alloc, 2),
         Prepared::Told(_) => empty(alloc, 1),
         Prepared::NotBuilt => empty(alloc, 6),
-        Prepared::Whole(verilog) => Outcome {
-            status: 0,
-            turns: verilog.turns,
-            entries: verilog.entries,
-        },
+        Prepared::BenchTold(_, kept) => with_history(1, kept),
+        Prepared::Whole(_, kept) => with_history(0, kept),
     }
 }
 
-/// The end after the write: status 4 where it failed.
-fn finished(sent: Result<(), Failed>, outcome: Outcome) -> Outcome
+/// The end after the write: status 4 where the sink failed, and 5 at want of memory.
+fn finished(alloc: Global, sent: Result<(), SendStop>, outcome: Outcome) -> Outcome
     ensures sent { OnOk sent (result.status ≡ outcome.status) }
-    ensures failed { OnErr sent (result.status ≡ 4) }
-    ensures history { history_of result ≡ history_of outcome }
+    ensures failed { IsErrOf sent sent_stop.Failed → result.status ≡ 4 }
+    ensures memory { IsErrOf sent sent_stop.NoMemory → (result.status ≡ 5) × (history_of result ≡ no_history) }
+    ensures history { (IsErrOf sent sent_stop.NoMemory → ⊥) → history_of result ≡ history_of outcome }
 {
     match sent {
         Ok(()) => outcome,
-        Err(_) => Outcome {
+        Err(SendStop::Failed) => Outcome {
             status: 4,
             ..outcome
         },
+        Err(SendStop::NoMemory) => empty(alloc, 5),
     }
 }
 
@@ -214,15 +267,18 @@ pub fn run_one<S: Source, K: Sink>(
         Err(Stop::Fault) => return empty(alloc, 3),
         Err(Stop::NoMemory) => return empty(alloc, 5),
     };
-    let sent = send(&prepared, output);
-    finished(sent, ended(alloc, prepared))
+    let sent = send(alloc, &prepared, output);
+    finished(alloc, sent, ended(alloc, prepared))
 }
 
 /// For each list of words and each text at most one status, one output and one list of calls are due.
 pub fn one_due()
     ensures { (words : List (List ℕ)) (text : List ℕ) (d e : Due) → IsDue words text d → IsDue words text e → d ≡ e }
 {
+    one_job();
     texts_have_one_answer();
     designs_elaborate_once();
-    texts_are_single();
+    elaborated_trees();
+    runs_are_single();
+    outputs_are_single();
 }

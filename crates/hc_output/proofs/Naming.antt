@@ -13,7 +13,7 @@ use Rattle.hc_elab.specs.Hierarchies.{AreCallsFor}
 use Rattle.hc_modules.specs.VerilogText.{AreAlike}
 use Rattle.hc_names.specs.NameRows.{name_of_entry}
 use Rattle.hc_names.specs.Naming.{AreNameRows, AreNamesAfter, Given, NameRow, first_rows, is_among, named_tree}
-use Rattle.hc_cli.specs.Due.{named_calls}
+use Rattle.hc_output.specs.Output.{named_calls}
 
 -- each call has a name
 has_name : (entries : List FormView) (given : Given) (cs : List CallView) (names : List (List ℕ)) → AreNamesAfter given (map (named_tree entries) cs) names

@@ -1,3 +1,4 @@
+# An instance whose two paths cross: no combinational loop goes through it.
 circuit c
 input i 1
 input j 1

@@ -1,0 +1,4 @@
+pub mod Naming
+pub mod Outputs
+pub mod Runs
+pub mod Parts

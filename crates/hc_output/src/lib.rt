@@ -1,0 +1,14 @@
+//! What each command writes for an elaborated design: prepared with its memory, then written.
+#![tactic(auto)]
+
+mod flat;
+mod kinds;
+mod laws;
+mod make;
+mod modules;
+mod send;
+
+pub use kinds::Output;
+pub use laws::outputs_are_single;
+pub use make::prepare_output;
+pub use send::{SendStop, write_output};

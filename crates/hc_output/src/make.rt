@@ -1,0 +1,177 @@
+ghost use Rattle.std.specs.Prelude.{◌≡◌, ◌++◌, ◌∷◌, [], List, ℕ, true, false, IfOk};
+ghost use Rattle.hc_bench.specs.Steps.{AreStepsFor};
+ghost use Rattle.hc_dbstate.specs.Elaboration.{IsElaboration, hier_view};
+ghost use Rattle.hc_dbstate.specs.Unfolding.{unfolding_of};
+ghost use Rattle.hc_elab.specs.Elaborates.{Elaborated};
+ghost use Rattle.hc_elab.specs.Hierarchies.{IsHierarchyFor, LogsWalk};
+ghost use Rattle.hc_signal.specs.Occurrences.{HasCombLoop};
+ghost use Rattle.hc_signal.specs.Tree.{graph};
+ghost use Rattle.hc_words.specs.declared.job.Verb.TheVariants as verb;
+ghost use Rattle.hc_output.specs.Output.{IsServed, IsVerilogFor};
+ghost use Rattle.hc_output.specs.Prepared.{HasOutput, IsFlatOf, IsReady};
+
+use crate::flat::{flat_circuit, playable_circuit, title_text};
+use crate::kinds::{Output, Played};
+use crate::modules::modules_text;
+use hc_bench::kinds::Bench;
+use hc_dbstate::{DbState, Hier};
+use hc_elab::elaborated_trees;
+use hc_fault::{Name, NoMemory};
+use hc_signal::Circuit;
+use hc_summary::summary;
+use hc_traces::{benches_have_runs, flat_graphs_run_alike, same_trees_run_alike};
+use hc_words::Verb;
+use std::alloc::Global;
+
+/// The Verilog: the modules of the hierarchy, or the one module of the flattened circuit.
+fn verilog_text(
+    alloc: Global,
+    flat: bool,
+    title: &Name,
+    db: &DbState,
+    hier: &Hier,
+) -> Result<Vec<u8>, NoMemory>
+    requires { IsElaboration db.now.entries hier.now }
+    ensures { IfOk result (λ text. (e : Elaborated) → IsHierarchyFor db.now.entries hier.now e → IsVerilogFor flat title.now e text.items) }
+{
+    if flat {
+        let circuit = flat_circuit(alloc, db, hier)?;
+        title_text(alloc, db, hier, &circuit, title)
+    } else {
+        modules_text(alloc, db, hier)
+    }
+}
+
+/// The Verilog, where the flattened circuit is at hand.
+fn verilog_with(
+    alloc: Global,
+    flat: bool,
+    title: &Name,
+    db: &DbState,
+    hier: &Hier,
+    circuit: &Circuit,
+) -> Result<Vec<u8>, NoMemory>
+    requires elaboration { IsElaboration db.now.entries hier.now }
+    requires circuit { IsFlatOf db.now.entries hier.now circuit.now }
+    ensures { IfOk result (λ text. (e : Elaborated) → IsHierarchyFor db.now.entries hier.now e → IsVerilogFor flat title.now e text.items) }
+{
+    if flat {
+        title_text(alloc, db, hier, circuit, title)
+    } else {
+        modules_text(alloc, db, hier)
+    }
+}
+
+/// What `verilog` writes.
+fn verilog_output(
+    alloc: Global,
+    flat: bool,
+    title: &Name,
+    db: &DbState,
+    hier: &Hier,
+    bench: &Bench,
+) -> Result<Output, NoMemory>
+    requires elaboration { IsElaboration db.now.entries hier.now }
+    requires steps { AreStepsFor (graph (unfolding_of db.now.entries (hier_view hier.now).own.entry)).ports.inputs bench.now.steps }
+    ensures ready { IfOk result IsReady }
+    ensures out { IfOk result (λ o. (e : Elaborated) → IsHierarchyFor db.now.entries hier.now e → ¬ HasCombLoop e.tree → HasOutput verb.Verilog flat title.now e bench.now.steps o) }
+{
+    benches_have_runs();
+    let text = verilog_text(alloc, flat, title, db, hier)?;
+    Ok(Output { text, played: None })
+}
+
+/// What `stat` writes.
+fn stat_output(
+    alloc: Global,
+    flat: bool,
+    title: &Name,
+    db: &DbState,
+    hier: &Hier,
+    bench: &Bench,
+) -> Result<Output, NoMemory>
+    requires elaboration { IsElaboration db.now.entries hier.now }
+    requires steps { AreStepsFor (graph (unfolding_of db.now.entries (hier_view hier.now).own.entry)).ports.inputs bench.now.steps }
+    ensures ready { IfOk result IsReady }
+    ensures out { IfOk result (λ o. (e : Elaborated) → IsHierarchyFor db.now.entries hier.now e → LogsWalk (record { entries = []; turns = [] }) db.now hier.now → ¬ HasCombLoop e.tree → HasOutput verb.Stat flat title.now e bench.now.steps o) }
+{
+    benches_have_runs();
+    let text = summary(alloc, db, hier, bench)?;
+    Ok(Output { text, played: None })
+}
+
+/// What `sim` writes.
+fn sim_output(
+    alloc: Global,
+    flat: bool,
+    title: &Name,
+    db: &DbState,
+    hier: &Hier,
+    bench: Bench,
+) -> Result<Output, NoMemory>
+    requires elaboration { IsElaboration db.now.entries hier.now }
+    requires steps { AreStepsFor (graph (unfolding_of db.now.entries (hier_view hier.now).own.entry)).ports.inputs bench.steps }
+    ensures ready { IfOk result IsReady }
+    ensures out { IfOk result (λ o. (e : Elaborated) → IsHierarchyFor db.now.entries hier.now e → HasOutput verb.Sim flat title.now e bench.steps o) }
+{
+    benches_have_runs();
+    flat_graphs_run_alike();
+    same_trees_run_alike();
+    let circuit = playable_circuit(alloc, db, hier)?;
+    Ok(Output {
+        text: Vec::new(alloc),
+        played: Some(Played { circuit, bench }),
+    })
+}
+
+/// What `both` writes.
+fn both_output(
+    alloc: Global,
+    flat: bool,
+    title: &Name,
+    db: &DbState,
+    hier: &Hier,
+    bench: Bench,
+) -> Result<Output, NoMemory>
+    requires elaboration { IsElaboration db.now.entries hier.now }
+    requires steps { AreStepsFor (graph (unfolding_of db.now.entries (hier_view hier.now).own.entry)).ports.inputs bench.steps }
+    ensures ready { IfOk result IsReady }
+    ensures out { IfOk result (λ o. (e : Elaborated) → IsHierarchyFor db.now.entries hier.now e → HasOutput verb.Both flat title.now e bench.steps o) }
+{
+    benches_have_runs();
+    flat_graphs_run_alike();
+    same_trees_run_alike();
+    let circuit = playable_circuit(alloc, db, hier)?;
+    let mut text = verilog_with(alloc, flat, title, db, hier, &circuit)?;
+    text.push(b'\n')?;
+    Ok(Output {
+        text,
+        played: Some(Played { circuit, bench }),
+    })
+}
+
+/// What a command writes for the hierarchy of a design, with all memory for it but the simulator's. The title is the name
+/// of the flattened circuit's module.
+pub fn prepare_output(
+    alloc: Global,
+    verb: Verb,
+    flat: bool,
+    title: &Name,
+    db: &DbState,
+    hier: &Hier,
+    bench: Bench,
+) -> Result<Output, NoMemory>
+    requires elaboration { IsElaboration db.now.entries hier.now }
+    requires served { IsServed verb }
+    requires steps { AreStepsFor (graph (unfolding_of db.now.entries (hier_view hier.now).own.entry)).ports.inputs bench.steps }
+    ensures ready { IfOk result IsReady }
+    ensures out { IfOk result (λ o. (e : Elaborated) → IsHierarchyFor db.now.entries hier.now e → LogsWalk (record { entries = []; turns = [] }) db.now hier.now → ¬ HasCombLoop e.tree → HasOutput verb flat title.now e bench.steps o) }
+{
+    match verb {
+        Verb::Verilog => verilog_output(alloc, flat, title, db, hier, &bench),
+        Verb::Sim => sim_output(alloc, flat, title, db, hier, bench),
+        Verb::Both => both_output(alloc, flat, title, db, hier, bench),
+        Verb::Stat => stat_output(alloc, flat, title, db, hier, &bench),
+        Verb::Gen => Err(NoMemory),
+    }
+}

@@ -1,0 +1,59 @@
+# A small arithmetic unit of n bits with a zero flag and a carry, and an accumulator that holds the result.
+# Operations: 0 add, 1 subtract, 2 and, 3 or, 4 exclusive or, 5 less than with signs, 6 shift left by one, 7 pass b.
+circuit alu n
+input operation 3
+input a n
+input b n
+output result n
+output zero 1
+output carry 1
+let sum add(uresize(a,n+1),uresize(b,n+1))
+let difference sub(uresize(a,n+1),uresize(b,n+1))
+let wide mux(operation,sum,difference,uresize(and(a,b),n+1),uresize(or(a,b),n+1),uresize(xor(a,b),n+1),uresize(lts(a,b),n+1),uresize(sll(a,1),n+1),uresize(b,n+1))
+assign result select(wide,n-1,0)
+assign zero eq(result,const(n,0))
+assign carry msb(wide)
+
+circuit accumulator n
+input operation 3
+input b n
+input enable 1
+output value n
+output zero 1
+output carry 1
+wire kept n
+inst unit alu n : operation=operation a=kept b=b
+reg value_now unit.result enable enable
+assign kept value_now
+assign value value_now
+assign zero unit.zero
+assign carry unit.carry
+top accumulator 8
+bench
+set enable 1
+set operation 7
+set b 100
+cycle
+set operation 0
+set b 200
+cycle
+set operation 1
+set b 45
+cycle
+set operation 5
+set b -1
+cycle
+set operation 3
+set b 8'h3c
+cycle
+set operation 2
+set b 8'h0f
+cycle
+set operation 4
+set b 8'hff
+cycle
+set operation 6
+cycle
+set enable 0
+cycle
+end

@@ -94,7 +94,7 @@ fn command(seen: Seen, word: &str) -> Option<Seen>
     })
 }
 
-/// One more word that is no option's name; none where it is refused.
+/// One more word that is no name of an option: a number of workers or a command; none where it is refused.
 fn joined(seen: Seen, word: &str) -> Option<Seen>
     ensures { result ≡ joined_word seen word.now (joined_number_of (codes "--workers=") word.now) }
 {

@@ -2,7 +2,7 @@
 use Rattle.std.proofs.Common.{◌≡◌, ℕ, true, cond, List, [], ◌∷◌, ◌++◌, codes, drop, Some, unwrap_or, refl, ap, ap₂, sym, ◌∙◌, true≢false, ◌==◌, arith}
 use Rattle.std.specs.Str.{bytes_eq}
 use Rattle.clap.proofs.WalkLemmas.{both}
-use Rattle.hc_words.specs.Items.{Item, Text, are_lawful, command, is_command, joined, name_of, spelled_all, split, text_at, workers}
+use Rattle.hc_words.specs.Items.{Item, Text, are_lawful, command, flat, is_about, is_command, joined, name_of, spelled_all, split, text_at, workers}
 use Rattle.hc_words.specs.Jobs.{IsJob, number_of}
 use Rattle.hc_words.specs.declared.job.Job.{Job}
 use Rattle.hc_words.specs.declared.job.Verb.{Verb}
@@ -28,6 +28,12 @@ not_empty w ws e = cc
 not_split : (n : Text) → codes "--workers=" ++ n ≡ codes "--workers" → ⊥
 not_split n e = cc
 
+flat_not_joined : (n : Text) → codes "--flat" ≡ codes "--workers=" ++ n → ⊥
+flat_not_joined n e = cc
+
+flat_not_split : codes "--flat" ≡ codes "--workers" → ⊥
+flat_not_split e = cc
+
 abbrev tail_of : List Text → List Text
 tail_of [] = []
 tail_of (w ∷ ws) = ws
@@ -37,9 +43,11 @@ items_once [] [] a b e = refl
 items_once [] (command v ∷ ys) a b e = absurd (not_empty _ _ e)
 items_once [] (joined workers n ∷ ys) a b e = absurd (not_empty _ _ e)
 items_once [] (split workers n ∷ ys) a b e = absurd (not_empty _ _ e)
+items_once [] (flat ∷ ys) a b e = absurd (not_empty _ _ e)
 items_once (command v ∷ xs) [] a b e = absurd (not_empty _ _ (sym e))
 items_once (joined workers n ∷ xs) [] a b e = absurd (not_empty _ _ (sym e))
 items_once (split workers n ∷ xs) [] a b e = absurd (not_empty _ _ (sym e))
+items_once (flat ∷ xs) [] a b e = absurd (not_empty _ _ (sym e))
 items_once (command v ∷ xs) (command w ∷ ys) a b e =
     ap₂ (λ (t : Text) (l : List Item). command t ∷ l) (ap first e) (items_once xs ys (both _ _ (both _ _ a).1).1 (both _ _ (both _ _ b).1).1 (ap tail_of e))
 items_once (command v ∷ xs) (joined workers n ∷ ys) a b e = absurd (no_dash v _ (both _ _ a).0 (ap first e))
@@ -52,6 +60,14 @@ items_once (joined workers n ∷ xs) (split workers m ∷ ys) a b e = absurd (no
 items_once (split workers n ∷ xs) (joined workers m ∷ ys) a b e = absurd (not_split m (sym (ap first e)))
 items_once (split workers n ∷ xs) (split workers m ∷ ys) a b e =
     ap₂ (λ (t : Text) (l : List Item). split workers t ∷ l) (ap (λ (t : List Text). first (tail_of t)) e) (items_once xs ys (both _ _ (both _ _ a).1).1 (both _ _ (both _ _ b).1).1 (ap (λ (t : List Text). tail_of (tail_of t)) e))
+items_once (flat ∷ xs) (flat ∷ ys) a b e =
+    ap (λ (l : List Item). flat ∷ l) (items_once xs ys (both _ _ (both true _ a).1).1 (both _ _ (both true _ b).1).1 (ap tail_of e))
+items_once (flat ∷ xs) (command w ∷ ys) a b e = absurd (no_dash w _ (both _ _ b).0 (sym (ap first e)))
+items_once (command v ∷ xs) (flat ∷ ys) a b e = absurd (no_dash v _ (both _ _ a).0 (ap first e))
+items_once (flat ∷ xs) (joined workers n ∷ ys) a b e = absurd (flat_not_joined n (ap first e))
+items_once (joined workers n ∷ xs) (flat ∷ ys) a b e = absurd (flat_not_joined n (sym (ap first e)))
+items_once (flat ∷ xs) (split workers n ∷ ys) a b e = absurd (flat_not_split (ap first e))
+items_once (split workers n ∷ xs) (flat ∷ ys) a b e = absurd (flat_not_split (sym (ap first e)))
 
 -- the command with a name
 abbrev named : Text → Verb
@@ -76,4 +92,4 @@ one_job words a b x y =
     same_job a b
     (verb_once a.verb b.verb (sym x.verb ∙ ap (text_at (codes "command")) same ∙ y.verb))
     (x.workers ∙ ap (number_of workers) same ∙ sym y.workers)
-    (x.flat ∙ sym y.flat) (x.seed ∙ sym y.seed)
+    (x.flat ∙ ap (is_about (codes "flat")) same ∙ sym y.flat) (x.seed ∙ sym y.seed)

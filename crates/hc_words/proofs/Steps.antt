@@ -14,16 +14,17 @@ use Rattle.clap.specs.declared.parser.matches.ValueSource.TheVariants.{CommandLi
 use Rattle.clap.specs.declared.builder.value_parser.ValueParser.TheVariants as vp
 use Rattle.clap.specs.declared.builder.action.ArgAction.TheVariants.{Set}
 use Rattle.clap.proofs.OnLiterals.{clap_on_literals}
-use Rattle.hc_words.specs.Rules.{command_rule, option_rule}
-use Rattle.hc_words.specs.Items.{Item, Text, command, joined, split, workers, id_of, spelled, value_of}
+use Rattle.hc_words.specs.Rules.{command_rule, flat_rule, option_rule}
+use Rattle.hc_words.specs.Items.{Item, Text, command, flat, joined, split, workers, id_of, spelled, value_of}
 
 abbrev pub workers_rule : Rule
 workers_rule = option_rule (codes "workers") (vp.Unsigned 1 64) (codes "1")
 
 abbrev pub app : Bor (List (Bor Text)) → App
 app names = with_rule
+    (with_rule
     (with_rule (on_top (λ s. record s { no_binary_name = true }) (new_app (codes "hardcaml"))) (command_rule names))
-    workers_rule
+    workers_rule) flat_rule
 
 abbrev pub rules_in : Bor (List (Bor Text)) → List Rule
 rules_in names = (built (app names)).top.rules
@@ -32,6 +33,14 @@ abbrev pub filled_workers : Rule
 filled_workers = record workers_rule {
   action = Some Set;
   range = Some (record { start_inclusive = 1; end_inclusive = 1 });
+}
+
+abbrev pub filled_flat : Rule
+filled_flat = record flat_rule {
+  range = Some (record { start_inclusive = 0; end_inclusive = 0 });
+  parser = Some vp.Bool;
+  defaults = codes "false" ∷ [];
+  missing = codes "true" ∷ [];
 }
 
 abbrev pub filled_command : Bor (List (Bor Text)) → Rule
@@ -252,4 +261,34 @@ command_step names h d ds rows s fresh passes other = record {
   };
   walks = λ rest. ap (λ w. fold (walked (rules_in names) []) w rest) (verb_walk names h d ds other);
   walk_ok = λ rest e. walk_cons names _ _ _ rest (verb_walk names h d ds other) (verb_turn names h d ds other s.passes) e;
+}
+
+-- ---- the flag
+
+flat_walk : (names : Bor (List (Bor Text))) (h : Held) (p : ℕ)
+    → walked (rules_in names) [] (at h p) (codes "--flat") ≡ at (reacted (rules_in names) filled_flat [] h) p
+unfolding clap_on_literals
+flat_walk names h p = refl
+
+flat_turn : (names : Bor (List (Bor Text))) (h : Held) (p : ℕ)
+    → turn_passes (shape_in names) [] (at h p) (codes "--flat")
+    ≡ ((settle_passes (rules_in names) false h && use_passes false filled_flat [] (settled_rows (rules_in names) h.pending h.rows)) && true)
+unfolding clap_on_literals
+flat_turn names h p = refl
+
+flat_ok : (rows : List Row) → has_row (codes "flat") rows ≡ false → use_passes false filled_flat [] rows ≡ true
+flat_ok rows fresh = rw fresh refl
+
+pub flat_step : (names : Bor (List (Bor Text))) (h : Held) (p : ℕ) (rows : List Row) → Settles names h rows
+    → has_row (codes "flat") rows ≡ false → Steps names h p p (spelled flat) (rows ++ row flat ∷ [])
+flat_step names h p rows s fresh = record {
+  end = reacted (rules_in names) filled_flat [] h;
+  settles = record {
+    rows_are = ap (used filled_flat []) s.rows_are ∙ with_fresh (codes "flat") (codes "true") rows fresh;
+    passes = refl;
+  };
+  walks = λ rest. ap (λ w. fold (walked (rules_in names) []) w rest) (flat_walk names h p);
+  walk_ok = λ rest e.
+      walk_cons names _ _ _ rest (flat_walk names h p)
+      (flat_turn names h p ∙ (rw (s.passes, s.rows_are, flat_ok rows fresh) refl)) e;
 }

@@ -13,7 +13,7 @@ joined_number prefix word =
     if bytes_eq (take (length prefix) word) prefix then Some (drop (length prefix) word) else None
 
 abbrev pub nothing_seen : Seen
-nothing_seen = record { command = false; workers = false; awaits = awaits.Nothing }
+nothing_seen = record { command = false; workers = false; flat = false; awaits = awaits.Nothing }
 
 abbrev pub awaited : ℕ → ℕ → Seen → Text → Option Seen
 awaited low high seen word =
@@ -32,7 +32,9 @@ abbrev pub item_word : Seen → Text → Option Seen
 item_word seen word =
     if bytes_eq word (codes "--workers")
     then (if seen.workers then None else Some (record seen { workers = true; awaits = awaits.Workers }))
-    else joined_word seen word (joined_number (codes "--workers=") word)
+    else (if bytes_eq word (codes "--flat")
+    then (if seen.flat then None else Some (record seen { flat = true }))
+    else joined_word seen word (joined_number (codes "--workers=") word))
 
 abbrev pub stepped_at : Awaits → Seen → Text → Option Seen
 stepped_at awaits.Nothing seen word = item_word seen word

@@ -1,4 +1,4 @@
--- The words of the command line as items: a command, and options with their numbers.
+-- The words of the command line as items: a command, options with their numbers, and a flag.
 use Rattle.std.specs.Prelude.{◌≡◌, ℕ, Bool, true, not, ◌&&◌, List, [], ◌∷◌, ◌++◌, map}
 use Rattle.std.specs.Prelude.{codes, length, Option, option_map, nat_lt, nat_le, find}
 use Rattle.std.specs.List.{list_all, list_any}
@@ -22,7 +22,7 @@ name_of verb.Gen = codes "gen"
 
 -- those that the program has
 abbrev pub commands : List Verb
-commands = verb.Verilog ∷ []
+commands = verb.Verilog ∷ verb.Sim ∷ verb.Both ∷ verb.Stat ∷ []
 
 abbrev pub command_names : List Text
 command_names = map name_of commands
@@ -50,27 +50,31 @@ default_number workers = codes "1"
 
 -- ---- items
 
--- a command, or an option with its number, as one word or as two
+-- a command; an option with its number, as one word or as two; or the flag
 pub data Item : Type 0 where
   command : Text → Item
   joined : NumberOption → Text → Item
   split : NumberOption → Text → Item
+  flat : Item
 
 abbrev pub spelled : Item → List Text
 spelled (command v) = v ∷ []
 spelled (joined o n) = (codes "--" ++ (option_name o ++ (codes "=" ++ n))) ∷ []
 spelled (split o n) = (codes "--" ++ option_name o) ∷ n ∷ []
+spelled flat = codes "--flat" ∷ []
 
 -- what the item is about
 abbrev pub id_of : Item → Text
 id_of (command v) = codes "command"
 id_of (joined o n) = option_name o
 id_of (split o n) = option_name o
+id_of flat = codes "flat"
 
 abbrev pub value_of : Item → Text
 value_of (command v) = v
 value_of (joined o n) = n
 value_of (split o n) = n
+value_of flat = codes "true"
 
 abbrev pub spelled_all : List Item → List Text
 spelled_all [] = []
@@ -89,6 +93,7 @@ abbrev pub is_lawful : Item → Bool
 is_lawful (command v) = is_command v
 is_lawful (joined o n) = is_between (least o) (greatest o) n
 is_lawful (split o n) = is_between (least o) (greatest o) n
+is_lawful flat = true
 
 -- an item of the list is about this
 abbrev pub is_about : Text → List Item → Bool

@@ -7,6 +7,7 @@ use Rattle.hc_words.specs.Items.{IsSpelledBy, Item, Text, is_between, is_command
 pub record HasValues (xs : List Item) (m : ArgMatches) : Type 0 where
   pub verb : first_value (found_of m) (codes "command") ≡ text_at (codes "command") xs
   pub workers : one_text (found_of m) (codes "workers") ≡ Some (unwrap_or (text_at (codes "workers") xs) (codes "1"))
+  pub flat : one_text (found_of m) (codes "flat") ≡ Some (unwrap_or (text_at (codes "flat") xs) (codes "false"))
 
 abbrev pub ReadsItems : List Text → ArgMatches → Type 0
 ReadsItems words m = (xs : List Item) → IsSpelledBy words xs → HasValues xs m

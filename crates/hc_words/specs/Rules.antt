@@ -4,6 +4,7 @@ use Rattle.std.specs.Borrow.{Bor}
 use Rattle.clap.specs.Words.{Rule, Text, new_rule}
 use Rattle.clap.specs.declared.builder.value_parser.ValueParser.{ValueParser}
 use Rattle.clap.specs.declared.builder.value_parser.ValueParser.TheVariants as vp
+use Rattle.clap.specs.declared.builder.action.ArgAction.TheVariants.{SetTrue}
 use Rattle.hc_words.specs.Items.{command_names}
 
 abbrev pub command_rule : Bor (List (Bor Text)) → Rule
@@ -13,6 +14,9 @@ command_rule names =
 abbrev pub option_rule : Text → ValueParser → Text → Rule
 option_rule id parser default =
     record (new_rule id) { long = Some id; parser = Some parser; defaults = default ∷ [] }
+
+abbrev pub flat_rule : Rule
+flat_rule = record (new_rule (codes "flat")) { long = Some (codes "flat"); action = Some SetTrue }
 
 -- an argument whose values are the names of the commands
 abbrev pub IsCommandRule : Rule → Type 0

@@ -1,6 +1,6 @@
 //! The test of the form, word by word.
-ghost use Rattle.std.specs.Prelude.{◌≡◌, map, string_bytes, option_map};
-ghost use Rattle.hc_words.specs.Form.{awaited as awaited_of, item_word, joined_number as joined_number_of, nothing_seen, passes, stepped};
+ghost use Rattle.std.specs.Prelude.{◌≡◌, map, string_bytes, option_map, codes};
+ghost use Rattle.hc_words.specs.Form.{awaited as awaited_of, command_word, item_word, joined_number as joined_number_of, joined_word, nothing_seen, passes, stepped};
 ghost use Rattle.hc_words.specs.Items.{is_between as is_between_text, is_command as is_command_text, is_decimal as is_decimal_text};
 
 /// The number that the next word has to be.
@@ -15,6 +15,7 @@ enum Awaits {
 struct Seen {
     command: bool,
     workers: bool,
+    flat: bool,
     awaits: Awaits,
 }
 
@@ -53,7 +54,7 @@ fn is_between(text: &str, low: u64, high: u64) -> bool
 fn is_command(word: &str) -> bool
     ensures { result ≡ is_command_text word.now }
 {
-    word == "verilog"
+    word == "verilog" || word == "sim" || word == "both" || word == "stat"
 }
 
 /// What follows a prefix of a word.
@@ -80,6 +81,35 @@ fn awaited(seen: Seen, word: &str, low: u64, high: u64) -> Option<Seen>
     }
 }
 
+/// One more word that is no option; none where it is refused.
+fn command(seen: Seen, word: &str) -> Option<Seen>
+    ensures { result ≡ command_word seen word.now }
+{
+    if seen.command || !is_command(word) {
+        return None;
+    }
+    Some(Seen {
+        command: true,
+        ..seen
+    })
+}
+
+/// One more word that is no name of an option: a number of workers or a command; none where it is refused.
+fn joined(seen: Seen, word: &str) -> Option<Seen>
+    ensures { result ≡ joined_word seen word.now (joined_number_of (codes "--workers=") word.now) }
+{
+    let Some(number) = joined_number("--workers=", word) else {
+        return command(seen, word);
+    };
+    if seen.workers || !is_between(number, 1, 64) {
+        return None;
+    }
+    Some(Seen {
+        workers: true,
+        ..seen
+    })
+}
+
 /// One more word, where an item begins; none where it is refused.
 fn item(seen: Seen, word: &str) -> Option<Seen>
     ensures { result ≡ item_word seen word.now }
@@ -94,22 +124,13 @@ fn item(seen: Seen, word: &str) -> Option<Seen>
             ..seen
         });
     }
-    if let Some(number) = joined_number("--workers=", word) {
-        if seen.workers || !is_between(number, 1, 64) {
+    if word == "--flat" {
+        if seen.flat {
             return None;
         }
-        return Some(Seen {
-            workers: true,
-            ..seen
-        });
+        return Some(Seen { flat: true, ..seen });
     }
-    if seen.command || !is_command(word) {
-        return None;
-    }
-    Some(Seen {
-        command: true,
-        ..seen
-    })
+    joined(seen, word)
 }
 
 /// One more word; none where it is refused.
@@ -129,6 +150,7 @@ pub(crate) fn has_form(words: &[String]) -> bool
     let mut seen = Seen {
         command: false,
         workers: false,
+        flat: false,
         awaits: Awaits::Nothing,
     };
     let mut rest = words;

@@ -5,13 +5,13 @@ ghost use Rattle.clap.specs.Words.{first_value, found_of, kind_of, one_text, rul
 ghost use Rattle.clap.specs.declared.builder.value_parser.ValueParser.TheVariants as vp;
 ghost use Rattle.hc_words.specs.Items.{is_command, name_of};
 ghost use Rattle.hc_words.specs.Jobs.{HasNoJob, IsJob};
-ghost use Rattle.hc_words.specs.Rules.{IsCommandRule, option_rule};
+ghost use Rattle.hc_words.specs.Rules.{IsCommandRule, flat_rule, option_rule};
 ghost use Rattle.hc_words.specs.Reads.{AreLawful, HasForm, ReadsItems};
 
 use crate::form::has_form;
 use clap::builder::ValueParser;
 use clap::error::ErrorKind;
-use clap::{Arg, ArgMatches, Command, Error};
+use clap::{Arg, ArgAction, ArgMatches, Command, Error};
 use std::alloc::Global;
 
 /// What is to be done with the design.
@@ -42,7 +42,7 @@ pub enum WordStop {
     NoMemory,
 }
 
-static COMMANDS: [&str; 1] = ["verilog"];
+static COMMANDS: [&str; 4] = ["verilog", "sim", "both", "stat"];
 
 fn workers_parser<'a>() -> ValueParser<'a>
     ensures { result ≡ vp.Unsigned 1 64 }
@@ -69,6 +69,15 @@ fn option_arg<'a>(alloc: Global, id: &'a str, parser: ValueParser<'a>, default: 
         .default_value(default)
 }
 
+fn flat_arg<'a>(alloc: Global) -> Arg<'a>
+    ensures rule { rule_of result ≡ flat_rule }
+    ensures local { result.global ≡ false }
+{
+    Arg::new(alloc, "flat")
+        .long("flat")
+        .action(ArgAction::SetTrue)
+}
+
 /// The matches of words that have the form.
 fn parsed<'a>(alloc: Global, words: &'a [String]) -> Result<ArgMatches<'a>, Error>
     requires { HasForm (map string_bytes words.now) }
@@ -77,10 +86,12 @@ fn parsed<'a>(alloc: Global, words: &'a [String]) -> Result<ArgMatches<'a>, Erro
 {
     let command = command_arg(alloc);
     let workers = option_arg(alloc, "workers", workers_parser(), "1");
+    let flat = flat_arg(alloc);
     let program = Command::new(alloc, "hardcaml")
         .no_binary_name(true)
         .arg(command)?
-        .arg(workers)?;
+        .arg(workers)?
+        .arg(flat)?;
     program.try_get_matches_from(words)
 }
 
@@ -91,6 +102,9 @@ fn verb_of(name: &str) -> Option<Verb>
 {
     match name {
         "verilog" => Some(Verb::Verilog),
+        "sim" => Some(Verb::Sim),
+        "both" => Some(Verb::Both),
+        "stat" => Some(Verb::Stat),
         _ => None,
     }
 }
@@ -100,7 +114,8 @@ fn job_of(matches: &ArgMatches) -> Job
     requires { AreLawful matches.now }
     ensures verb { first_value (found_of matches.now) (codes "command") ≡ Some (name_of result.verb) }
     ensures workers { option_map (digits_value 10) (one_text (found_of matches.now) (codes "workers")) ≡ Some result.workers }
-    ensures flat { result.flat ≡ false }
+    ensures set { one_text (found_of matches.now) (codes "flat") ≡ Some (codes "true") → result.flat ≡ true }
+    ensures unset { one_text (found_of matches.now) (codes "flat") ≡ Some (codes "false") → result.flat ≡ false }
     ensures seed { result.seed ≡ 0 }
 {
     let verb = match matches.get_str("command") {
@@ -108,10 +123,11 @@ fn job_of(matches: &ArgMatches) -> Job
         None => Verb::Verilog,
     };
     let workers = matches.get_one::<u32>("workers").unwrap_or(1);
+    let flat = matches.get_flag("flat");
     Job {
         verb,
         workers,
-        flat: false,
+        flat,
         seed: 0,
     }
 }

@@ -11,33 +11,53 @@ fn words(alloc: Global, list: &[&str]) -> Result<Vec<String>, AllocError> {
     Ok(words)
 }
 
-/// Lists of words, each with the number of workers of its job, or none where it is refused.
-const CASES: [(&[&str], Option<u32>); 14] = [
-    (&["verilog"], Some(1)),
-    (&["verilog", "--workers=64"], Some(64)),
-    (&["--workers", "08", "verilog"], Some(8)),
+/// Lists of words, each with the command, the number of workers and the flag of its job, or none where it is refused.
+const CASES: [(&[&str], Option<(Verb, u32, bool)>); 25] = [
+    (&["verilog"], Some((Verb::Verilog, 1, false))),
+    (&["sim"], Some((Verb::Sim, 1, false))),
+    (&["both"], Some((Verb::Both, 1, false))),
+    (&["stat"], Some((Verb::Stat, 1, false))),
+    (
+        &["verilog", "--workers=64"],
+        Some((Verb::Verilog, 64, false)),
+    ),
+    (
+        &["--workers", "08", "verilog"],
+        Some((Verb::Verilog, 8, false)),
+    ),
+    (&["--flat", "verilog"], Some((Verb::Verilog, 1, true))),
+    (
+        &["verilog", "--flat", "--workers", "8"],
+        Some((Verb::Verilog, 8, true)),
+    ),
+    (&["sim", "--flat", "--flat"], None),
+    (&["--flat"], None),
+    (&["verilog", "--flat=true"], None),
     (&["verilog", "--workers", "0"], None),
     (&["verilog", "--workers", "65"], None),
     (&["verilog", "--workers", "-1"], None),
     (&["verilog", "--workers"], None),
+    (&["verilog", "--workers", "--flat"], None),
     (&["--workers", "2", "verilog", "--workers=2"], None),
+    (&["verilog", "--seed", "1"], None),
     (&["verilog", "sim"], None),
-    (&["sim"], None),
+    (&["gen"], None),
     (&["--", "verilog"], None),
     (&["--help"], None),
     (&["build"], None),
+    (&["stats"], None),
     (&[], None),
 ];
 
 #[test]
 fn words_are_read_as_told(rt: HostRuntime) -> Result<(), Fail> {
-    for (list, workers) in &CASES {
+    for (list, job) in &CASES {
         let list = words(rt.alloc(), *list)?;
-        let told = match *workers {
-            Some(workers) => Ok(Job {
-                verb: Verb::Verilog,
+        let told = match *job {
+            Some((verb, workers, flat)) => Ok(Job {
+                verb,
                 workers,
-                flat: false,
+                flat,
                 seed: 0,
             }),
             None => Err(WordStop::Words),

@@ -17,8 +17,11 @@ returns c =
     let plain_is : app_of c.no_binary_name.result ≡ on_top (λ s. record s { no_binary_name = true }) (new_app (codes "hardcaml")) =
     ap app_of_fields c.no_binary_name.ensures ∙ ap (on_top (λ s. record s { no_binary_name = true })) c.new.ensures.app in
     let program_is : app_of c.in_ok-program.program ≡ app names =
-    c.in_ok-program.ensures.shape c.option_arg-workers.ensures.local
-    ∙ ap₂ with_rule (c.in_ok-arg.ensures.shape c.command_arg-command.ensures.local ∙ ap₂ with_rule plain_is verb.2) (c.option_arg-workers.ensures.rule ∙ ap (λ p. option_rule (codes "workers") p (codes "1")) c.workers_parser.ensures) in
+    c.in_ok-program.ensures.shape c.flat_arg-flat.ensures.local
+    ∙ ap₂ with_rule
+    (c.in_ok-arg-2.ensures.shape c.option_arg-workers.ensures.local
+    ∙ ap₂ with_rule (c.in_ok-arg.ensures.shape c.command_arg-command.ensures.local ∙ ap₂ with_rule plain_is verb.2) (c.option_arg-workers.ensures.rule ∙ ap (λ p. option_rule (codes "workers") p (codes "1")) c.workers_parser.ensures))
+    c.flat_arg-flat.ensures.rule in
     let parse = c.try_get_matches_from in
     let some = c.requires in
     let law_of : (xs : List Item) → IsSpelledBy words xs → Parses names xs = λ xs s. law names verb.1 xs s.lawful (has_item xs s.has_command) in
@@ -31,6 +34,7 @@ returns c =
           record {
             verb = first_value-rows (found_of m) (codes "command") ∙ ap (first_of (codes "command")) same ∙ parses.verb;
             workers = one_text-rows (found_of m) (codes "workers") ∙ ap (one_of (codes "workers")) same ∙ parses.workers;
+            flat = one_text-rows (found_of m) (codes "flat") ∙ ap (one_of (codes "flat")) same ∙ parses.flat;
           }) parse.ensures.matches;
       err = IfErr-weaker parse.result _ _ (λ e h. h taken) parse.ensures.passes;
     }

@@ -1,8 +1,8 @@
-use Rattle.std.proofs.Common.{codes, ap, sym, ◌∙◌, map, string_bytes, Global, unwrap_or, option_map}
+use Rattle.std.proofs.Common.{◌≡◌, Bool, true, false, cond, Some, refl, codes, ap, sym, ◌∙◌, map, string_bytes, Global, unwrap_or, option_map}
 use Rattle.std.specs.Str.Parse.{digits_value}
-use Rattle.hc_words.specs.Items.{text_at}
+use Rattle.hc_words.specs.Items.{is_about, text_at}
 use Rattle.hc_words.proofs.FormLaw.{no_job, spelled_by}
-use Rattle.hc_words.proofs.Law.{verb_lawful, workers_lawful}
+use Rattle.hc_words.proofs.Law.{flat_text, verb_lawful, workers_lawful}
 use Rattle.hc_words.proofs.job.read_words.Goals as goal
 
 pub returns-then-not-has_form-clause-err : goal.returns-then-not-has_form-clause-err
@@ -30,12 +30,17 @@ returns-in-Ok-clause-ok c =
     let some = spelled_by (map (string_bytes {Z = Global}) c.args.words.now) (sym c.if-not-has_form.ensures) in
     let values = c.in-Ok.ensures.ok some.0 some.1 in
     let read = c.job_of.ensures in
+    let there = is_about (codes "flat") some.0 in
+    let by : (b : Bool) → there ≡ b → c.job_of.result.flat ≡ b = λ b. elim b as (λ b. there ≡ b → c.job_of.result.flat ≡ b) [
+      | true ↦ λ is. read.set (values.flat ∙ ap Some (flat_text some.0 ∙ ap (λ x. cond x (codes "true") (codes "false")) is))
+      | false ↦ λ is. read.unset (values.flat ∙ ap Some (flat_text some.0 ∙ ap (λ x. cond x (codes "true") (codes "false")) is))
+    ] in
     record {
       items = some.0;
       spelling = some.1;
       verb = sym values.verb ∙ read.verb;
       workers = ap (λ o. unwrap_or o 0) (sym read.workers ∙ ap (option_map (digits_value 10)) values.workers);
-      flat = read.flat;
+      flat = by there refl;
       seed = read.seed;
     }
 

@@ -2,5 +2,10 @@
 #![tactic(auto)]
 
 mod laws;
+mod writing;
 
-pub use laws::flat_graphs_are_isomorphic;
+pub use laws::{flat_graphs_are_isomorphic, flat_texts_are_single};
+pub use writing::flat_text;
+
+#[cfg(test)]
+mod tests;

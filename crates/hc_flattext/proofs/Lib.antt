@@ -1,0 +1,4 @@
+pub mod Agreeing
+pub mod Standing
+pub mod FlatGraphs
+pub mod FlatTexts

@@ -1,0 +1,11 @@
+//! The Verilog of a flattened circuit: one module.
+#![tactic(auto)]
+
+mod laws;
+mod writing;
+
+pub use laws::{flat_graphs_are_isomorphic, flat_texts_are_single};
+pub use writing::flat_text;
+
+#[cfg(test)]
+mod tests;

@@ -1,0 +1,3 @@
+pub mod CarriedPaths
+pub mod CarriedReach
+pub mod CarriedGraph

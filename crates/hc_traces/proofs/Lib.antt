@@ -7,3 +7,6 @@ pub mod TwinTraces
 pub mod FlatValues
 pub mod FlatTraces
 pub mod StartedRuns
+pub mod StartsListed
+pub mod StartsPaths
+pub mod StartsStates

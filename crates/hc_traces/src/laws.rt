@@ -54,3 +54,9 @@ pub fn runs_are_single()
 pub fn listings_are_of_runs()
     ensures { (outputs : List Port) (sim : Simulation) (steps : List Step) (rows : List CycleRow) (old new : Option (List ℕ)) → IsSimulation sim → IsAtStart sim → IsRun sim.tree steps rows → IsListed outputs sim steps old new → Appends old new (listing outputs rows) }
 {}
+
+/// A tree without a combinational loop gives the steps of a bench some run: it has initial states, and these give rows.
+pub fn benches_have_runs()
+    ensures starts { (t : Tree) → IsWhole t → (state : State) × IsInitialState t state }
+    ensures runs { (t : Tree) → IsWhole t → ¬ HasCombLoop t → (steps : List Step) → AreStepsFor (graph t).ports.inputs steps → (rows : List CycleRow) × IsRun t steps rows }
+{}

@@ -60,7 +60,8 @@ module _ (h : History) (legal : IsLegal h) where
         let p = uses_path id used in
         (p.0, p.1, subst (λ (t : Tree). Same t (unfolding_of h.entries id)) (sym p.2) (same-refl (unfolding_of h.entries id)))
 
-    path_entry : top.0 < length h.entries → (path : List ℕ) → IsReachedPath top_tree path → (id : EntryId) × Uses h.entries top id × (id.0 < length h.entries) × (tree_at top_tree path ≡ unfolding_of h.entries id)
+    -- a reached path comes to the unfolding of an entry that the top uses
+    pub path_entry : top.0 < length h.entries → (path : List ℕ) → IsReachedPath top_tree path → (id : EntryId) × Uses h.entries top id × (id.0 < length h.entries) × (tree_at top_tree path ≡ unfolding_of h.entries id)
     path_entry within [] r = (top, itself, within, refl)
     path_entry within (i ∷ path) r =
         let p = path_entry within path r.0 in

@@ -45,7 +45,7 @@ pub(crate) fn is_marked(marks: &[bool], id: EntryId) -> bool
 }
 
 /// Marks of the entries that an entry uses, by their places. Kids stand at lower places, so one pass down is enough.
-pub(crate) fn used_entries(alloc: Global, db: &DbState, top: EntryId) -> Result<Vec<bool>, NoMemory>
+pub fn used_entries(alloc: Global, db: &DbState, top: EntryId) -> Result<Vec<bool>, NoMemory>
     requires { top.0 < length db.now.entries }
     ensures { IfOk result (λ marks. AreUses db.now.entries top marks.items) }
 {

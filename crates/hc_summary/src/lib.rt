@@ -1,0 +1,10 @@
+//! The summary of an elaborated design: how many instances, entries, modules, rows and statements, words of memory and cycles
+//! it has.
+#![tactic(auto)]
+
+mod counts;
+mod laws;
+mod lines;
+
+pub use counts::summary;
+pub use laws::summaries_are_single;

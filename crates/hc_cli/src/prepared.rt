@@ -10,8 +10,8 @@ use crate::fault_line::write_fault;
 use hc_canon::Form;
 use hc_dbstate::{DbState, Turn};
 use hc_fault::Fault;
-use hc_outside::{Failed, Sink, write_all};
 use hc_output::{Output, SendStop, write_output};
+use hc_outside::{Failed, Sink, write_all};
 use std::alloc::Global;
 
 /// The history of an elaboration.
@@ -59,11 +59,7 @@ fn stopped(sent: Result<(), Failed>) -> Result<(), SendStop>
 }
 
 /// Writes what was prepared.
-pub(crate) fn send<K: Sink>(
-    alloc: Global,
-    prepared: &Prepared,
-    to: &mut K,
-) -> Result<(), SendStop>
+pub(crate) fn send<K: Sink>(alloc: Global, prepared: &Prepared, to: &mut K) -> Result<(), SendStop>
     requires { CanSend prepared.now }
     ensures all { (out : List ℕ) → IsOutOf prepared.now out → OnOk result (Appends (K.taken to.old) (K.taken to.new) out) }
     ensures front { (out : List ℕ) → IsOutOf prepared.now out → IsErrOf result stop.Failed → AppendsFront (K.taken to.old) (K.taken to.new) out }

@@ -21,15 +21,15 @@ ghost use Rattle.hc_words.specs.Jobs.{IsJob};
 
 use crate::op_use::holds_op;
 use crate::prepared::{Kept, Prepared, kept_of, send};
-use hc_bench::make::bench;
 use hc_bench::kinds::Bench;
+use hc_bench::make::bench;
 use hc_canon::Form;
 use hc_dbstate::{DbState, Hier, Turn, entries_unfold_once};
 use hc_elab::{designs_elaborate_once, elab_one, elaborated_trees};
 use hc_fault::{Fault, FaultKind, NoMemory, Refused};
 use hc_lang::{Design, parse, texts_have_one_answer};
-use hc_outside::{ReadStop, Sink, Source, read_all};
 use hc_output::{SendStop, outputs_are_single, prepare_output};
+use hc_outside::{ReadStop, Sink, Source, read_all};
 use hc_traces::runs_are_single;
 use hc_words::{Job, WordStop, one_job, read_words};
 use std::alloc::Global;
@@ -66,12 +66,7 @@ fn told(refused: Refused) -> Result<Prepared, NoMemory>
 }
 
 /// The bench of a design, for the ports of the top of its hierarchy.
-fn bench_of(
-    alloc: Global,
-    design: &Design,
-    db: &DbState,
-    hier: &Hier,
-) -> Result<Bench, Refused>
+fn bench_of(alloc: Global, design: &Design, db: &DbState, hier: &Hier) -> Result<Bench, Refused>
     requires { IsElaboration db.now.entries hier.now }
     ensures answer { Answers (λ bench. bench.steps) result (steps_of design.now (graph (unfolding_of db.now.entries (hier_view hier.now).own.entry)).ports) }
     ensures steps { IfOk result (λ bench. AreStepsFor (graph (unfolding_of db.now.entries (hier_view hier.now).own.entry)).ports.inputs bench.steps) }
@@ -99,7 +94,15 @@ fn prepare_elaborated(
     db.legal();
     match bench_of(alloc, design, &db, hier) {
         Ok(bench) => {
-            let output = prepare_output(alloc, job.verb, job.flat, &design.top.name, &db, hier, bench)?;
+            let output = prepare_output(
+                alloc,
+                job.verb,
+                job.flat,
+                &design.top.name,
+                &db,
+                hier,
+                bench,
+            )?;
             Ok(Prepared::Whole(output, kept_of(db)))
         }
         Err(Refused::Fault(fault)) => Ok(Prepared::BenchTold(fault, kept_of(db))),

@@ -34,7 +34,11 @@ pub(crate) fn flat_circuit(alloc: Global, db: &DbState, hier: &Hier) -> Result<C
 
 /// The flattened circuit, for a run. The flat simulator has no operations yet, and a design without them by name has none
 /// in its circuit: until a clause says so, this is looked at, and want of memory stands for the other case.
-pub(crate) fn playable_circuit(alloc: Global, db: &DbState, hier: &Hier) -> Result<Circuit, NoMemory>
+pub(crate) fn playable_circuit(
+    alloc: Global,
+    db: &DbState,
+    hier: &Hier,
+) -> Result<Circuit, NoMemory>
     requires { IsElaboration db.now.entries hier.now }
     ensures flat { IfOk result (λ c. IsFlatOf db.now.entries hier.now c) }
     ensures no_ops { IfOk result (λ c. HasNoOps c) }

@@ -1,5 +1,5 @@
 -- Renumberings that agree on the fan-in of a row give it the same numbers.
-use Rattle.std.proofs.Common.{◌≡◌, ℕ, List, [], ◌∷◌, ◌++◌, map, refl, ap, ap₂, ◌∙◌}
+use Rattle.std.proofs.Common.{◌≡◌, List, [], ◌∷◌, ◌++◌, map, refl, ap, ap₂, ◌∙◌}
 use Rattle.std.specs.Prelude.{Option, Some, None, option_map}
 use Rattle.hc_signal.specs.Member.{Has, first, later}
 use Rattle.hc_walk.proofs.Members.{has_left, has_right}
@@ -10,7 +10,7 @@ use Rattle.hc_signal.specs.declared.signal.Node.TheVariants.{Input, Wire, Const,
 use Rattle.hc_signal.specs.declared.signal.Memory.{Memory}
 use Rattle.hc_signal.specs.declared.signal.WritePort.{WritePort}
 use Rattle.hc_bits.specs.BitVector.{BitVector}
-use Rattle.hc_signal.specs.Graph.{Vertex, node, mem, inst, fanin_of_node, fanin_of_row, fanin_of_memory, fanin_of_writes, nodes_of, node_of, optional_node, clear_node}
+use Rattle.hc_signal.specs.Graph.{Vertex, mem, inst, fanin_of_node, fanin_of_row, fanin_of_memory, fanin_of_writes, nodes_of, node_of, optional_node, clear_node}
 use Rattle.hc_signal.specs.Renumber.{Renumbering, renumber, id_by, clear_by, node_by, row_by, write_by, memory_by}
 use Rattle.hc_canon.proofs.Renumbered.{number}
 

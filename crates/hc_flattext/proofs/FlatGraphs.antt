@@ -1,13 +1,10 @@
 -- Two flat graphs of one tree are isomorphic.
-use Rattle.std.proofs.Common.{◌≡◌, ℕ, List, [], ◌∷◌, map, refl, sym, subst, ◌∙◌, ap}
-use Rattle.std.specs.Prelude.{slice_get, Option, Some, option_map}
+use Rattle.std.proofs.Common.{◌≡◌, ℕ, List, [], map, refl, sym, subst, ◌∙◌, ap}
+use Rattle.std.specs.Prelude.{slice_get, option_map}
 use Rattle.hc_signal.specs.Member.{Has}
-use Rattle.hc_walk.proofs.Members.{has_map, has_from_map}
-use Rattle.hc_signal.specs.declared.signal.NodeId.{NodeId}
-use Rattle.hc_signal.specs.declared.signal.NodeRow.{NodeRow}
-use Rattle.hc_signal.specs.declared.signal.Memory.{Memory}
+use Rattle.hc_walk.proofs.Members.{has_from_map}
 use Rattle.hc_signal.specs.declared.signal.Instance.{Instance}
-use Rattle.hc_signal.specs.Graph.{Graph, Vertex, node, mem, inst, Reached, output, further, fanin, fanin_of_row, fanin_of_memory, fanin_of_instance, nodes_of, node_of}
+use Rattle.hc_signal.specs.Graph.{Graph, Vertex, node, mem, inst, Reached, output, further, fanin, fanin_of_row, fanin_of_memory, fanin_of_instance, nodes_of}
 use Rattle.hc_signal.specs.Tree.{Tree, graph, IsWhole, leaf}
 use Rattle.hc_signal.specs.Renumber.{Renumbering, renumber, id_by, row_by, memory_by, instance_by}
 use Rattle.hc_signal.specs.Occurrences.{Occurrence, graph_at, row_at, IsFlatNode}

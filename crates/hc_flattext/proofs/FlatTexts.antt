@@ -1,20 +1,16 @@
 -- A tree has one flat text, and the form of a circuit without instances has its text.
-use Rattle.std.proofs.Common.{◌≡◌, ℕ, ◌<◌, List, [], ◌∷◌, length, refl, sym, ap, subst, ◌∙◌, arith}
-use Rattle.std.specs.Prelude.{slice_get, Some}
+use Rattle.std.proofs.Common.{◌≡◌, ℕ, ◌<◌, List, [], ◌∷◌, length, refl, arith}
 use Rattle.hc_bits.specs.Digits.{lines_text}
 use Rattle.hc_signal.specs.Graph.{Graph}
 use Rattle.hc_signal.specs.Member.{Has, first}
 use Rattle.hc_signal.specs.Tree.{Tree, IsWhole, leaf}
 use Rattle.hc_signal.specs.FlatGraph.{IsFlat}
-use Rattle.hc_walk.proofs.Members.{has_slice}
-use Rattle.hc_canon.specs.declared.form.EntryId.{EntryId}
 use Rattle.hc_canon.specs.FormView.{FormView, IsCanonOf}
-use Rattle.hc_canon.specs.Same.{IsIsomorphism}
 use Rattle.hc_canon.proofs.Renumbered.{then}
 use Rattle.hc_canon.proofs.Isomorphisms.{isomorphism_then}
 use Rattle.hc_verilog.specs.ModuleNames.{name_in}
 use Rattle.hc_verilog.specs.Templates.{module_lines}
-use Rattle.hc_verilog.specs.ModuleText.{AreNamed, IsFormText, IsModuleText, IsTreeText}
+use Rattle.hc_verilog.specs.ModuleText.{IsFormText, IsTreeText}
 use Rattle.hc_verilog.proofs.Single.{module_text_single, tree_text_single}
 use Rattle.hc_flattext.specs.FlatText.{IsFlatText}
 use Rattle.hc_flattext.proofs.FlatGraphs.{to, flats_paired}

@@ -1,7 +1,6 @@
 -- What a node that is reached through instances stands for: a flat node, which has its number in each flat graph.
-use Rattle.std.proofs.Common.{◌≡◌, ℕ, zero, suc, ◌⊎◌, inl, inr, false, List, [], ◌∷◌, map, refl, sym, subst, ◌∙◌, ap}
+use Rattle.std.proofs.Common.{◌≡◌, ℕ, zero, suc, ◌⊎◌, inl, inr, false, List, [], ◌∷◌, refl, sym, subst, ◌∙◌, ap}
 use Rattle.std.specs.Prelude.{slice_get, Option, Some, None}
-use Rattle.hc_signal.specs.Member.{Has}
 use Rattle.hc_walk.proofs.Members.{has_slice}
 use Rattle.hc_walk.proofs.InRange.{HasRow, reached_row}
 use Rattle.hc_signal.specs.declared.signal.Port.{Port}

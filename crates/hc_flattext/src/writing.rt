@@ -18,5 +18,6 @@ pub fn flat_text(alloc: Global, circuit: &Circuit, name: &Name) -> Result<Vec<u8
 {
     let form = canon(alloc, circuit, &[])?;
     let names = Names::new(alloc);
-    module_text(alloc, &form, name, &names)
+    let text = module_text(alloc, &form, name, &names)?;
+    Ok(text)
 }

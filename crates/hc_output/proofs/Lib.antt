@@ -1,4 +1,4 @@
 pub mod Naming
 pub mod Outputs
 pub mod Runs
-pub mod Parts
+pub mod Sends

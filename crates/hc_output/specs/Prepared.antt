@@ -30,12 +30,12 @@ pub record IsFlatOf (entries : List FormView) (h : Hier) (g : Graph) : Type 0 wh
   pub no_loop : ¬ HasCombLoop (leaf g)
 
 -- A circuit that the flat simulator takes, and steps for its inputs.
-pub record IsPlayable (g : Graph) (steps : List Step) : Type 0 where
+pub record IsPlayable (g : Graph) (ss : List Step) : Type 0 where
   pub checked : IsChecked g
   pub instances : g.instances ≡ []
   pub no_loop : ¬ HasCombLoop (leaf g)
   pub no_ops : HasNoOps g
-  pub steps : AreStepsFor g.ports.inputs steps
+  pub steps : AreStepsFor g.ports.inputs ss
 
 -- the listing of the run of a circuit
 abbrev pub IsListing : Played → List ℕ → Type 0

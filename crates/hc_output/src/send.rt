@@ -14,7 +14,7 @@ use crate::kinds::{Output, Played};
 use hc_bench::{Sim, play};
 use hc_flatsim::FlatSim;
 use hc_outside::{Failed, Sink, write_all};
-use hc_traces::{listings_are_of_runs, parts_of_listings_are_fronts};
+use hc_traces::{listings_are_of_runs, parts_of_listings_are_fronts, same_trees_run_alike};
 use std::alloc::Global;
 
 /// Why an output was not written to its end.
@@ -41,6 +41,7 @@ fn play_from_start<'a, K: Sink>(
 {
     listings_are_of_runs();
     parts_of_listings_are_fronts();
+    same_trees_run_alike();
     sim.lawful();
     play(sim, &played.bench, played.circuit.ports(), to)
 }

@@ -1,11 +1,12 @@
 -- Runs of an elaborated design, and of its flattened circuit.
-use Rattle.std.proofs.Common.{◌≡◌, ℕ, List, [], map, refl, sym, ap, subst, ◌∙◌}
-use Rattle.std.specs.Prelude.{Some, slice_get}
+use Rattle.std.proofs.Common.{◌≡◌, ℕ, List, [], ◌∷◌, ◌++◌, append_assoc, map, refl, sym, ap, subst, ◌∙◌}
+use Rattle.std.specs.Prelude.{Some, slice_get, Result, Ok, Err, IfOk}
 use Rattle.hc_signal.specs.declared.signal.Instance.{Instance}
 use Rattle.hc_signal.specs.declared.signal.Ports.{Ports}
 use Rattle.hc_signal.specs.declared.signal.Port.{Port}
 use Rattle.hc_signal.specs.Graph.{Graph}
 use Rattle.hc_signal.specs.FlatGraph.{IsFlat}
+use Rattle.hc_signal.specs.Checked.{IsChecked}
 use Rattle.hc_signal.specs.Lawful.{IsLawful}
 use Rattle.hc_signal.specs.Tree.{Tree, none, tree, graph, leaf, IsWhole}
 use Rattle.hc_signal.specs.Occurrences.{HasCombLoop}
@@ -16,12 +17,13 @@ use Rattle.hc_dbstate.specs.Elaboration.{hier_view}
 use Rattle.hc_dbstate.specs.Unfolding.{unfolding_of}
 use Rattle.hc_flatten.proofs.Good.{IsGood}
 use Rattle.hc_bench.specs.declared.kinds.Step.{Step}
-use Rattle.hc_bench.specs.Listing.{CycleRow}
+use Rattle.hc_bench.specs.Listing.{CycleRow, listing}
 use Rattle.hc_bench.specs.Simulation.{State, IsInitialState, initial_inputs}
 use Rattle.hc_bench.specs.Steps.{AreStepsFor}
 use Rattle.hc_bench.specs.Trace.{IsRun, Trace}
 use Rattle.hc_elab.specs.Elaborates.{Elaborated}
 use Rattle.hc_elab.specs.Hierarchies.{IsHierarchyFor}
+use Rattle.hc_output.specs.Output.{listing_for}
 use Rattle.hc_output.specs.Prepared.{IsFlatOf}
 
 pub same_ports : (s t : Tree) → Same s t → (graph t).ports ≡ (graph s).ports
@@ -34,8 +36,12 @@ pub good_whole : (t : Tree) → IsGood t → IsWhole t
 good_whole none good = absurd good
 good_whole (tree g kids) good = (good.0, λ i it e. (let k = good.2 i it e in (k.0, good_whole (kids i) k.1)))
 
+no_instance : (l : List Instance) (i : ℕ) (it : Instance) → l ≡ [] → slice_get l i ≡ Some it → ⊥
+no_instance [] i it e at = cc
+no_instance (x ∷ l) i it e at = cc
+
 pub leaf_whole : (g : Graph) → IsLawful g → g.instances ≡ [] → IsWhole (leaf g)
-leaf_whole g lawful none = (lawful, λ i it e. (let at : slice_get ([] {A = Instance}) i ≡ Some it = subst (λ (l : List Instance). slice_get l i ≡ Some it) none e in cc))
+leaf_whole g lawful empty = (lawful, λ i it e. absurd (no_instance g.instances i it empty e))
 
 -- the inputs of trees with the same ports start alike
 inputs_alike : (s t : Tree) → (graph t).ports ≡ (graph s).ports → initial_inputs s ≡ initial_inputs t
@@ -78,3 +84,21 @@ flat_runs have starts flat same entries hier g e steps lawful is for are =
 -- the listing of the run of the flattened circuit is for the ports of the design
 pub ports_alike : (entries : List FormView) (hier : Hier) (g : Graph) (e : Elaborated) → IsFlatOf entries hier g → IsHierarchyFor entries hier e → g.ports ≡ (graph e.tree).ports
 ports_alike entries hier g e is for = is.flat.ports ∙ sym (same_ports (unfolding_of entries (hier_view hier).own.entry) e.tree for.top)
+
+-- ---- what is written of a run
+
+-- the listing alone
+pub sim_listing : (items : List ℕ) (g : Graph) (e : Elaborated) (rows : List CycleRow) → items ≡ [] → g.ports ≡ (graph e.tree).ports → listing_for e rows ≡ items ++ listing g.ports.outputs rows
+sim_listing items g e rows empty same = ap (λ (p : Ports). listing p.outputs rows) (sym same) ∙ ap (λ (l : List ℕ). l ++ listing g.ports.outputs rows) (sym empty)
+
+-- a text, an empty line and the listing
+pub both_listing : (text items : List ℕ) (g : Graph) (e : Elaborated) (rows : List CycleRow) → items ≡ text ++ 10 ∷ [] → g.ports ≡ (graph e.tree).ports → text ++ 10 ∷ listing_for e rows ≡ items ++ listing g.ports.outputs rows
+both_listing text items g e rows is same =
+    ap (λ (p : Ports). text ++ 10 ∷ listing p.outputs rows) (sym same) ∙ sym (append_assoc text (10 ∷ []) (listing g.ports.outputs rows)) ∙ ap (λ (l : List ℕ). l ++ listing g.ports.outputs rows) (sym is)
+
+-- ---- the flattened circuit
+
+pub flat_made : {F : Type 0} (entries : List FormView) (hier : Hier) (r : Result Graph F) → IsWhole (unfolding_of entries (hier_view hier).own.entry) → ¬ HasCombLoop (unfolding_of entries (hier_view hier).own.entry)
+    → IfOk r (λ c. IsFlat (unfolding_of entries (hier_view hier).own.entry) c) → IfOk r (λ c. c.instances ≡ []) → IfOk r (λ c. IsChecked c) → IfOk r (λ c. ¬ HasCombLoop (leaf c)) → IfOk r (λ c. IsFlatOf entries hier c)
+flat_made entries hier (Ok g) whole free flat instances checked no_loop = record { flat = flat; whole = whole; free = free; checked = checked; instances = instances; no_loop = no_loop }
+flat_made entries hier (Err e) whole free flat instances checked no_loop = tt

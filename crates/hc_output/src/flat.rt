@@ -16,7 +16,7 @@ ghost use Rattle.hc_signal.specs.Occurrences.{HasCombLoop};
 ghost use Rattle.hc_signal.specs.Tree.{graph, leaf};
 ghost use Rattle.hc_output.specs.Prepared.{IsFlatOf};
 
-use hc_dbstate::{DbState, Hier};
+use hc_dbstate::{DbState, Hier, walks_are_whole};
 use hc_fault::{Name, NoMemory};
 use hc_flatsim::has_no_ops;
 use hc_flatten::flatten;
@@ -29,6 +29,8 @@ pub(crate) fn flat_circuit(alloc: Global, db: &DbState, hier: &Hier) -> Result<C
     requires { IsElaboration db.now.entries hier.now }
     ensures { IfOk result (λ c. IsFlatOf db.now.entries hier.now c) }
 {
+    walks_are_whole();
+    db.legal();
     flatten(alloc, db, hier)
 }
 

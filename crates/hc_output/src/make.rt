@@ -118,6 +118,7 @@ fn sim_output(
     flat_graphs_run_alike();
     same_trees_run_alike();
     let circuit = playable_circuit(alloc, db, hier)?;
+    circuit.lawful();
     Ok(Output {
         text: Vec::new(alloc),
         played: Some(Played { circuit, bench }),
@@ -142,6 +143,7 @@ fn both_output(
     flat_graphs_run_alike();
     same_trees_run_alike();
     let circuit = playable_circuit(alloc, db, hier)?;
+    circuit.lawful();
     let mut text = verilog_with(alloc, flat, title, db, hier, &circuit)?;
     text.push(b'\n')?;
     Ok(Output {

@@ -20,6 +20,7 @@ use Rattle.hc_lang.specs.declared.tree.Design.{Design}
 use Rattle.hc_lang.specs.Reads.{Answers, AtMostOne, NotBoth, OneFault, ParsesTo}
 use Rattle.hc_bench.specs.declared.kinds.Step.{Step}
 use Rattle.hc_bench.specs.Listing.{CycleRow}
+use Rattle.hc_bench.specs.Answers.{Refuses}
 use Rattle.hc_bench.specs.Steps.{steps_of}
 use Rattle.hc_bench.specs.Trace.{IsRun}
 use Rattle.hc_elab.specs.Elaborates.{DesignElaborates, Elaborated}
@@ -33,7 +34,7 @@ use Rattle.hc_cli.specs.Clauses.{EndsInput}
 use Rattle.hc_cli.specs.Due.{Due, IsDesignDue, IsDue, IsTextDue, asked, bench_broken, broken, done, faulty, not_built, operation, parsed, refusal, refused, text_fault, told, too_long, whole}
 use Rattle.hc_cli.specs.Histories.{IsHistoryOf}
 use Rattle.hc_cli.specs.OpUse.{holds_op}
-use Rattle.hc_cli.specs.Prepared.{IsToldOf, Serves, ServesDesign, ServesInput, ServesLeft, ServesText, history_in}
+use Rattle.hc_cli.specs.Prepared.{IsBenchToldOf, IsToldOf, Serves, ServesDesign, ServesInput, ServesLeft, ServesText, history_in}
 use Rattle.hc_cli.proofs.Kept.{no_calls}
 
 -- ---- what serves what is due
@@ -79,8 +80,12 @@ asked_left words left job p j s = (s.0, s.1, s.2, asked job j s.3, s.4)
 pub serves_operation : (job : Job) (d : Design) → holds_op d ≡ true → ServesDesign job d is.NotBuilt
 serves_operation job d holds = (not_built, operation holds, serves_not_built)
 
-pub serves_bench : (job : Job) (d : Design) (e : Elaborated) (f : Fault) (k : Kept) → holds_op d ≡ false → DesignElaborates d (Ok e) → steps_of d (graph e.tree).ports ≡ Err f → IsHistoryOf (history_in k) e.calls → ServesDesign job d (is.BenchTold f k)
+serves_bench : (job : Job) (d : Design) (e : Elaborated) (f : Fault) (k : Kept) → holds_op d ≡ false → DesignElaborates d (Ok e) → steps_of d (graph e.tree).ports ≡ Err f → IsHistoryOf (history_in k) e.calls → ServesDesign job d (is.BenchTold f k)
 serves_bench job d e f k none elaborates fault history = (told f e.calls, bench_broken e f none elaborates fault, record { status = refl; out = refl; history = history; ready = tt })
+
+pub serves_refused : (job : Job) (d : Design) (e : Elaborated) (r : Refused) (k : Kept) (p : Prepared) → holds_op d ≡ false → DesignElaborates d (Ok e) → Refuses r (steps_of d (graph e.tree).ports) → IsBenchToldOf r k p → IsHistoryOf (history_in k) e.calls → ServesDesign job d p
+serves_refused job d e (refusals.Fault f) k p none elaborates fault same history = subst (ServesDesign job d) (sym same) (serves_bench job d e f k none elaborates fault history)
+serves_refused job d e refusals.NoMemory k p none elaborates fault same history = absurd same
 
 pub serves_whole : (job : Job) (d : Design) (e : Elaborated) (steps : List Step) (o : Output) (k : Kept) → holds_op d ≡ false → DesignElaborates d (Ok e) → IsWhole e.tree → steps_of d (graph e.tree).ports ≡ Ok steps
     → HasOutput job.verb job.flat d.top.name e steps o → IsReady o → IsHistoryOf (history_in k) e.calls → ServesDesign job d (is.Whole o k)
@@ -133,10 +138,10 @@ module _ (one_job : (words : List (List ℕ)) (a b : Job) → IsJob words a → 
   outputs_once : (job : Job) (d : Design) (e : Elaborated) (steps others : List Step) (rows more : List CycleRow) (a b : List ℕ) → DesignElaborates d (Ok e) → IsWhole e.tree
       → steps_of d (graph e.tree).ports ≡ Ok steps → steps_of d (graph e.tree).ports ≡ Ok others → IsRun e.tree steps rows → IsRun e.tree others more
       → IsOutput job.verb job.flat d.top.name e rows a → IsOutput job.verb job.flat d.top.name e more b → a ≡ b
-  outputs_once job d e steps others rows more a b x whole s t run ran o p =
+  outputs_once job d e steps others rows more a b x w s t run ran o p =
       let same : steps ≡ others = ok_is steps others (sym s ∙ t) in
-      let rows_same : rows ≡ more = one_run e.tree whole (free d e x) others rows more (subst (λ (l : List Step). IsRun e.tree l rows) same run) ran in
-      one_output job.verb job.flat d.top.name e more a b whole (subst (λ (l : List CycleRow). IsOutput job.verb job.flat d.top.name e l a) rows_same o) p
+      let rows_same : rows ≡ more = one_run e.tree w (free d e x) others rows more (subst (λ (l : List Step). IsRun e.tree l rows) same run) ran in
+      one_output job.verb job.flat d.top.name e more a b w (subst (λ (l : List CycleRow). IsOutput job.verb job.flat d.top.name e l a) rows_same o) p
 
   same_design : (d : Design) (e g : Elaborated) → DesignElaborates d (Ok e) → DesignElaborates d (Ok g) → e ≡ g
   same_design d e g x y = ok_is e g (elaborates_once d (Ok e) (Ok g) x y)
@@ -155,12 +160,12 @@ module _ (one_job : (words : List (List ℕ)) (a b : Job) → IsJob words a → 
   whole_once : (job : Job) (d : Design) (e g : Elaborated) (steps others : List Step) (rows more : List CycleRow) (a b : List ℕ) → DesignElaborates d (Ok e) → DesignElaborates d (Ok g) → IsWhole g.tree
       → steps_of d (graph e.tree).ports ≡ Ok steps → steps_of d (graph g.tree).ports ≡ Ok others → IsRun e.tree steps rows → IsRun g.tree others more
       → IsOutput job.verb job.flat d.top.name e rows a → IsOutput job.verb job.flat d.top.name g more b → done e.calls a ≡ done g.calls b
-  whole_once job d e g steps others rows more a b x y whole s t run ran o p =
+  whole_once job d e g steps others rows more a b x y w s t run ran o p =
       let same : e ≡ g = same_design d e g x y in
       let given : steps_of d (graph g.tree).ports ≡ Ok steps = subst (λ (k : Elaborated). steps_of d (graph k.tree).ports ≡ Ok steps) same s in
       let rows_here : IsRun g.tree steps rows = subst (λ (k : Elaborated). IsRun k.tree steps rows) same run in
       let out_here : IsOutput job.verb job.flat d.top.name g rows a = subst (λ (k : Elaborated). IsOutput job.verb job.flat d.top.name k rows a) same o in
-      ap₂ (λ (k : Elaborated) (l : List ℕ). done k.calls l) same (outputs_once job d g steps others rows more a b y whole given t rows_here ran out_here p)
+      ap₂ (λ (k : Elaborated) (l : List ℕ). done k.calls l) same (outputs_once job d g steps others rows more a b y w given t rows_here ran out_here p)
 
   design_once : (job : Job) (d : Design) (x y : Due) → IsDesignDue job d x → IsDesignDue job d y → x ≡ y
   design_once job d x y (operation a) (operation b) = refl

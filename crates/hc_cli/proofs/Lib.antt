@@ -4,3 +4,4 @@ pub mod AnyOf
 pub mod Kept
 pub mod DueLaws
 pub mod Served
+pub mod Ends

@@ -6,11 +6,6 @@ use Rattle.std.specs.Result.{IsErr}
 use Rattle.std.specs.Io.KnownBytes.{Appends}
 use Rattle.hc_outside.specs.Causes.{HasCause, Rose}
 use Rattle.hc_outside.specs.Moves.{AppendsUpTo, AppendsFront}
-use Rattle.hc_fault.specs.declared.fault.Fault.{Fault}
-use Rattle.hc_cli.specs.declared.prepared.Prepared.{Prepared}
-use Rattle.hc_cli.specs.declared.prepared.Prepared.TheVariants.{Told}
-use Rattle.hc_cli.specs.FaultLine.{fault_line}
-use Rattle.hc_cli.specs.Prepared.{out_of}
 use Rattle.hc_cli.specs.Sent.{IsSent}
 
 -- nothing was sent so far
@@ -56,9 +51,3 @@ sent_last a b c (Err e) bytes rest so_far front = sent_front a b c bytes rest re
 -- the write of the first part failed
 pub sent_cut_first : {T E : Type 0} (a b : Option (List ℕ)) (m n : ℕ) (result : Result T E) (bytes piece after : List ℕ) → IsErr result → bytes ≡ piece ++ after → AppendsFront a b piece → m ≤ n → Rose m n → IsSent a b m n result bytes
 sent_cut_first a b m n result bytes piece after is parts front grows rose = sent_cut a a b m m n result bytes bytes piece after is (sent_none a bytes) (omega arith) parts front grows rose
-
--- the line of a fault was sent
-pub sent_told : (p : Prepared) (f : Fault) → p ≡ Told f → (a b : Option (List ℕ)) (m n : ℕ) {T E : Type 0} (result : Result T E)
-    → OnOk result (Appends a b (fault_line f)) → OnErr result (AppendsFront a b (fault_line f)) → HasCause m n result → IsSent a b m n result (out_of p)
-sent_told p f is a b m n result all front cause =
-    subst (λ (q : Prepared). IsSent a b m n result (out_of q)) (sym is) (record { all = all; front = front; cause = cause })

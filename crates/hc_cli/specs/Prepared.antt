@@ -58,6 +58,11 @@ abbrev pub IsToldOf : Refused → Prepared → Type 0
 IsToldOf (refused.Fault f) p = p ≡ is.Told f
 IsToldOf refused.NoMemory p = ⊥
 
+-- and for one of a bench
+abbrev pub IsBenchToldOf : Refused → Kept → Prepared → Type 0
+IsBenchToldOf (refused.Fault f) k p = p ≡ is.BenchTold f k
+IsBenchToldOf refused.NoMemory k p = ⊥
+
 -- this serves what is due for a design; for a text; for what a source had left, or some text where it tells none
 abbrev pub ServesDesign : Job → Design → Prepared → Type 0
 ServesDesign job design p = (d : Due) × IsDesignDue job design d × Serves p d

@@ -1,5 +1,5 @@
 //! What is written at the end, and what is handed out beside.
-ghost use Rattle.std.specs.Prelude.{◌≡◌, List, ℕ, IsErrOf, OnOk};
+ghost use Rattle.std.specs.Prelude.{◌≡◌, List, ℕ, IsErr, IsErrOf, IsOk, OnErr, OnOk};
 ghost use Rattle.std.specs.Io.KnownBytes.{Appends, Keeps};
 ghost use Rattle.hc_outside.specs.Causes.{Rose};
 ghost use Rattle.hc_outside.specs.Moves.{AppendsFront};

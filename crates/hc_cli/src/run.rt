@@ -6,7 +6,7 @@ ghost use Rattle.hc_cli.specs.declared.run.Stop.TheVariants as stop;
 ghost use Rattle.hc_cli.specs.Clauses.{EndsInput, EndsRead, ForDue, IsCut, IsDone, IsDueOrNoMemory, IsWritten, history_of};
 ghost use Rattle.hc_cli.specs.Due.{Due, IsDue};
 ghost use Rattle.hc_cli.specs.Histories.{no_history};
-ghost use Rattle.hc_cli.specs.Prepared.{CanSend, IsToldOf, ServesDesign, ServesElaborated, ServesInput, ServesLeft, ServesText, history_in, kept, status_of};
+ghost use Rattle.hc_cli.specs.Prepared.{CanSend, IsBenchToldOf, IsToldOf, ServesDesign, ServesElaborated, ServesInput, ServesLeft, ServesText, history_in, kept, status_of};
 ghost use Rattle.hc_bench.specs.Answers.{Answers};
 ghost use Rattle.hc_bench.specs.Steps.{AreStepsFor, steps_of};
 ghost use Rattle.hc_dbstate.specs.Elaboration.{IsElaboration, hier_view};
@@ -24,7 +24,7 @@ use crate::prepared::{Kept, Prepared, kept_of, send};
 use hc_bench::kinds::Bench;
 use hc_bench::make::bench;
 use hc_canon::Form;
-use hc_dbstate::{DbState, Hier, Turn, entries_unfold_once};
+use hc_dbstate::{DbState, Hier, Turn, entries_unfold_once, walks_are_whole};
 use hc_elab::{designs_elaborate_once, elab_one, elaborated_trees};
 use hc_fault::{Fault, FaultKind, NoMemory, Refused};
 use hc_lang::{Design, parse, texts_have_one_answer};
@@ -65,12 +65,23 @@ fn told(refused: Refused) -> Result<Prepared, NoMemory>
     }
 }
 
+/// A fault of a bench is told, and want of memory is handed on.
+fn bench_told(refused: Refused, kept: Kept) -> Result<Prepared, NoMemory>
+    ensures { IfOk result (IsBenchToldOf refused kept) }
+{
+    match refused {
+        Refused::Fault(fault) => Ok(Prepared::BenchTold(fault, kept)),
+        Refused::NoMemory => Err(NoMemory),
+    }
+}
+
 /// The bench of a design, for the ports of the top of its hierarchy.
 fn bench_of(alloc: Global, design: &Design, db: &DbState, hier: &Hier) -> Result<Bench, Refused>
     requires { IsElaboration db.now.entries hier.now }
     ensures answer { Answers (λ bench. bench.steps) result (steps_of design.now (graph (unfolding_of db.now.entries (hier_view hier.now).own.entry)).ports) }
     ensures steps { IfOk result (λ bench. AreStepsFor (graph (unfolding_of db.now.entries (hier_view hier.now).own.entry)).ports.inputs bench.steps) }
 {
+    walks_are_whole();
     db.legal();
     let form = db.get(hier.entry);
     form.canonical();
@@ -105,8 +116,7 @@ fn prepare_elaborated(
             )?;
             Ok(Prepared::Whole(output, kept_of(db)))
         }
-        Err(Refused::Fault(fault)) => Ok(Prepared::BenchTold(fault, kept_of(db))),
-        Err(Refused::NoMemory) => Err(NoMemory),
+        Err(refused) => bench_told(refused, kept_of(db)),
     }
 }
 

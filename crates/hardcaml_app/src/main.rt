@@ -3,6 +3,7 @@
 
 use hc_cli::run_one;
 use hc_outside::{StdSink, StdSource};
+use std::io::LineWriter;
 use std::process::ExitCode;
 use std::{env, io};
 
@@ -19,8 +20,11 @@ fn main(rt: HostRuntime) -> ExitCode {
     let Ok(words) = words(&rt) else {
         return ExitCode::from(5);
     };
+    let Ok(lines) = LineWriter::new(rt.alloc(), rt.stdout()) else {
+        return ExitCode::from(5);
+    };
     let mut input = StdSource::new(rt.stdin());
-    let mut output = StdSink::new(rt.stdout());
+    let mut output = StdSink::new(lines);
     let outcome = run_one(rt.alloc(), &words, &mut input, &mut output);
     ExitCode::from(outcome.status)
 }

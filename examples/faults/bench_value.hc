@@ -1,0 +1,11 @@
+circuit t
+input s 2
+input a 4
+output y 4
+assign y mux(s,a,const(4,2),const(4,9))
+top t
+bench
+set s 4
+set a 5
+cycle
+end

@@ -1,0 +1,6 @@
+circuit t
+input s 2
+input a 4
+output y 4
+assign y mux(s,a,const(4,2),const(4,9),a,a)
+top t

@@ -22,11 +22,11 @@ returns-in_ok-output-in-Ok c = λ e elaborates for logs plain.
 
 pub returns-in-Err : goal.returns-in-Err
 returns-in-Err c = IfOk-weaker c.bench_told.result _ _ (
-  λ p told. λ e elaborates for logs plain.
-      let entries = c.args.db.entries in
-      let hier = c.args.hier.now in
-      let design = c.args.design.now in
-      let refused = subst (λ (p : Ports). Refuses c.in-Err.refused (steps_of design p)) (sym (same_ports (unfolding_of entries (hier_view hier).own.entry) e.tree for.top)) c.in-Err.ensures.answer in
-      let history = history_is c.args.db hier e c.legal.ensures (λ i j a b. c.entries_unfold_once.ensures c.args.db i j c.legal.ensures a b) c.requires.elaboration for logs in
-      serves_refused c.args.job.now design e c.in-Err.refused c.kept_of-in-Err.result p plain elaborates refused told (history_of_kept c.kept_of-in-Err.result c.args.db e.calls c.kept_of-in-Err.ensures history)
-) c.bench_told.ensures
+    λ p told. λ e elaborates for logs plain.
+    let entries = c.args.db.entries in
+    let hier = c.args.hier.now in
+    let design = c.args.design.now in
+    let refused = subst (λ (p : Ports). Refuses c.in-Err.refused (steps_of design p)) (sym (same_ports (unfolding_of entries (hier_view hier).own.entry) e.tree for.top)) c.in-Err.ensures.answer in
+    let history = history_is c.args.db hier e c.legal.ensures (λ i j a b. c.entries_unfold_once.ensures c.args.db i j c.legal.ensures a b) c.requires.elaboration for logs in
+    serves_refused c.args.job.now design e c.in-Err.refused c.kept_of-in-Err.result p plain elaborates refused told (history_of_kept c.kept_of-in-Err.result c.args.db e.calls c.kept_of-in-Err.ensures history)
+    ) c.bench_told.ensures

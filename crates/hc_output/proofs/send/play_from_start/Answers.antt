@@ -1,4 +1,3 @@
-use Rattle.std.specs.Prelude.{OnErr}
 use Rattle.hc_flatsim.specs.Machine.{simulation_of}
 use Rattle.hc_output.proofs.Sends.{front_of_run, on_err}
 use Rattle.hc_output.proofs.send.play_from_start.Goals as goal

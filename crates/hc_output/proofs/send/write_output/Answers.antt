@@ -1,6 +1,3 @@
-use Rattle.std.proofs.Common.{ℕ, List, subst}
-use Rattle.std.specs.Prelude.{Some}
-use Rattle.hc_output.specs.Prepared.{IsWithListing}
 use Rattle.hc_output.proofs.Sends.{err_through, ok_through, sent_listing, sent_listing_front}
 use Rattle.hc_output.proofs.send.write_output.Goals as goal
 

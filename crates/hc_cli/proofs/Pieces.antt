@@ -1,10 +1,10 @@
 -- What was sent piece by piece.
 use Rattle.std.proofs.Common.{◌≡◌, ℕ, List, [], ◌++◌, append_assoc, append-nil, sym, ◌∙◌, ap, refl, subst, arith, ◌≤◌, inl, inr}
 use Rattle.std.proofs.KnownBytes.{Appends-nil, Appends-trans}
-use Rattle.std.specs.Prelude.{Option, Result, Ok, Err, OnErr, OnOk}
+use Rattle.std.specs.Prelude.{Option, Result, Ok, Err, OnErr}
 use Rattle.std.specs.Result.{IsErr}
 use Rattle.std.specs.Io.KnownBytes.{Appends}
-use Rattle.hc_outside.specs.Causes.{HasCause, Rose}
+use Rattle.hc_outside.specs.Causes.{Rose}
 use Rattle.hc_outside.specs.Moves.{AppendsUpTo, AppendsFront}
 use Rattle.hc_cli.specs.Sent.{IsSent}
 

@@ -1,5 +1,5 @@
 -- A job is of a command that is built.
-use Rattle.std.proofs.Common.{◌≡◌, ℕ, true, List, sym, subst, ◌∙◌}
+use Rattle.std.proofs.Common.{◌≡◌, true, List, sym, subst, ◌∙◌}
 use Rattle.std.specs.Prelude.{Some, Option, codes}
 use Rattle.hc_words.specs.Items.{Text, is_command, name_of, text_at}
 use Rattle.hc_words.specs.Jobs.{IsJob}

@@ -114,6 +114,11 @@ pub enum Refused {
 }
 
 impl From<NoMemory> for Refused {
+    ghost use Rattle.std.specs.Prelude.{◌≡◌};
+    ghost use Rattle.hc_fault.specs.declared.fault.Refused.TheVariants.{NoMemory};
+
+    ghost from_gives = { λ _ refused. refused ≡ NoMemory };
+
     fn from(_error: NoMemory) -> Refused {
         Refused::NoMemory
     }

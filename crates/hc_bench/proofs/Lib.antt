@@ -2,4 +2,3 @@ pub mod BenchSteps
 pub mod Pieces
 pub mod Rows
 pub mod Plays
-pub mod TwoPorts

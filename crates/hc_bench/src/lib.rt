@@ -9,8 +9,6 @@ pub mod make;
 mod run;
 mod sends;
 mod sim;
-#[cfg(test)]
-mod tests;
 
 pub use run::play;
 pub use sim::Sim;

@@ -3,8 +3,6 @@
 
 mod bits;
 mod kind;
-#[cfg(test)]
-mod tests;
 
 pub use bits::Bits;
 pub use kind::{OpKind, bits_of};

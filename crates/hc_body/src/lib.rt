@@ -7,5 +7,3 @@ pub mod kinds;
 pub mod laws;
 pub mod make;
 mod open;
-#[cfg(test)]
-mod tests;

@@ -21,5 +21,3 @@ pub use laws::{
 pub use numbers::Numbers;
 pub use renumber::{Renumber, new_ids, ports_copy};
 
-#[cfg(test)]
-mod tests;

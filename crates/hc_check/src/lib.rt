@@ -9,5 +9,3 @@ mod undriven;
 pub use laws::one_verdict;
 pub use rules::{CheckStop, check};
 
-#[cfg(test)]
-mod tests;

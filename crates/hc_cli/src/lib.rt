@@ -5,8 +5,6 @@ mod fault_line;
 mod op_use;
 mod prepared;
 mod run;
-#[cfg(test)]
-mod tests;
 
 pub use fault_line::write_fault;
 pub use run::{Outcome, one_due, run_one};

@@ -4,8 +4,6 @@
 mod db;
 mod kept;
 mod laws;
-#[cfg(test)]
-mod tests;
 
 pub use db::{Db, Pass};
 pub use kept::Kept;

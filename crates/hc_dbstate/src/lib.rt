@@ -15,5 +15,3 @@ pub use laws::{
 };
 pub use turns::{Entered, Turn};
 
-#[cfg(test)]
-mod tests;

@@ -11,5 +11,3 @@ pub use elab::elab_one;
 pub use laws::{designs_elaborate_once, elaborated_trees};
 pub use sums::Sums;
 
-#[cfg(test)]
-mod tests;

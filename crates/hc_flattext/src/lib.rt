@@ -9,5 +9,3 @@ pub use carried::same_trees_flatten_alike;
 pub use laws::{flat_graphs_are_isomorphic, flat_texts_are_single};
 pub use writing::flat_text;
 
-#[cfg(test)]
-mod tests;

@@ -4,8 +4,6 @@
 mod laws;
 mod line;
 mod signal;
-#[cfg(test)]
-mod tests;
 mod tree;
 
 pub use laws::{lines_have_one_form, signals_are_read};

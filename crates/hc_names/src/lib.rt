@@ -9,5 +9,3 @@ pub use names::Names;
 pub use naming::assign;
 pub use used::{Used, names_are_single};
 
-#[cfg(test)]
-mod tests;

@@ -3,8 +3,6 @@
 
 mod arithmetic;
 mod bindings;
-#[cfg(test)]
-mod tests;
 mod values;
 
 pub use bindings::Env;

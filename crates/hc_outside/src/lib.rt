@@ -5,8 +5,6 @@ mod all;
 mod count;
 mod memory;
 mod standard;
-#[cfg(test)]
-mod tests;
 mod traits;
 
 pub use all::{ReadStop, read_all, write_all};

@@ -14,5 +14,3 @@ mod search;
 
 pub use laws::{loops_and_masks_compose, loops_of_flat_nodes};
 
-#[cfg(test)]
-mod tests;

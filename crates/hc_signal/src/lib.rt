@@ -14,5 +14,3 @@ pub use signal::{
 };
 pub use stop::BuildStop;
 
-#[cfg(test)]
-mod tests;

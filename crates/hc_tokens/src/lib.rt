@@ -5,8 +5,6 @@ mod laws;
 mod lexer;
 mod numbers;
 mod stop;
-#[cfg(test)]
-mod tests;
 mod token;
 mod tree;
 

@@ -5,8 +5,6 @@
 mod lock;
 mod logged;
 mod rule;
-#[cfg(test)]
-mod tests;
 mod turns;
 mod view;
 

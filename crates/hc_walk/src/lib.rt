@@ -11,5 +11,3 @@ pub use depth_first::walk;
 pub use laws::one_walk;
 pub use vertex::VertexId;
 
-#[cfg(test)]
-mod tests;

@@ -3,7 +3,5 @@
 
 mod form;
 mod job;
-#[cfg(test)]
-mod tests;
 
 pub use job::{Job, Verb, WordStop, one_job, read_words};

@@ -1,8 +1,0 @@
-use Rattle.std.proofs.Common.{◌<◌, length}
-use Rattle.hc_canon.proofs.tests.chain.Given as goal
-
-abbrev pub invariant-links : goal.invariant-links
-invariant-links g l = record {
-  last : l.last.0 < length l.builder.nodes;
-  x : l.x.0 < length l.builder.nodes;
-}

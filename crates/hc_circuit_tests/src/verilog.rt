@@ -1,0 +1,72 @@
+ghost use Rattle.std.specs.Prelude.{◌≡◌};
+
+use crate::builders::room;
+use hc_verilog::module_text;
+use hc_bits::Bits;
+use hc_canon::canon;
+use hc_check::check;
+use hc_fault::Name;
+use hc_names::Names;
+use hc_signal::{Builder, Circuit};
+use std::alloc::Global;
+use std::process::Abort;
+use std::test::Fail;
+
+/// Whether the module of a circuit without instances is this text.
+fn is_written(
+    rt: &impl Abort,
+    alloc: Global,
+    circuit: &Circuit,
+    expected: &str,
+) -> Result<bool, Fail> {
+    check(alloc, circuit)?;
+    assert_eq!(rt; circuit.instances().len(), 0);
+    let form = canon(alloc, circuit, &[])?;
+    let text = module_text(alloc, &form, &Name::new(alloc, b"t")?, &Names::new(alloc))?;
+    Ok(text.as_slice() == expected.as_bytes())
+}
+
+/// A value of some width.
+fn bits(rt: &impl Abort, width: u32, value: u128) -> Bits
+    ensures { result.width ≡ width }
+{
+    Bits::new(width, value).expect(rt, "the value fits")
+}
+
+const REGISTER: &str =
+    "module t (\n  input clock,\n  input [7:0] d,\n  input [0:0] en,\n  input [0:0] clr,\n  output [7:0] q\n);\n  reg [7:0] n1 = 8'h00;\n  assign q = n1;\n  always @(posedge clock) begin\n    if (clr) n1 <= 8'h07;\n    else if (en) n1 <= d;\n  end\nendmodule\n";
+
+#[test]
+fn a_clear_comes_before_an_enable(rt: HostRuntime) -> Result<(), Fail> {
+    let alloc = rt.alloc();
+    let mut builder = Builder::new(alloc);
+    let d = builder.input(&Name::new(alloc, b"d")?, 8)?;
+    let en = builder.input(&Name::new(alloc, b"en")?, 1)?;
+    let clr = builder.input(&Name::new(alloc, b"clr")?, 1)?;
+    let q = builder.output(&Name::new(alloc, b"q")?, 8)?;
+    let seven = bits(&rt, 8, 7);
+    let zero = bits(&rt, 8, 0);
+    let r = builder.reg(d, Some(en), Some((clr, seven)), zero)?;
+    builder.drive(q, r)?;
+    assert!(rt; is_written(&rt, alloc, &builder.finish(), REGISTER)?);
+    Ok(())
+}
+
+const MEMORY: &str =
+    "module t (\n  input clock,\n  input [2:0] a,\n  output [3:0] q\n);\n  wire [3:0] n1;\n  wire [0:0] n2;\n  wire [3:0] n3;\n  reg [3:0] m0 [0:3];\n  assign q = n1;\n  assign n1 = a < 3'h4 ? m0[a] : 4'h0;\n  assign n2 = 1'h1;\n  assign n3 = 4'h9;\n  always @(posedge clock) begin\n    if (n2) m0[a] <= n3;\n  end\nendmodule\n";
+
+#[test]
+fn a_read_is_bounded(rt: HostRuntime) -> Result<(), Fail> {
+    let alloc = rt.alloc();
+    let mut builder = Builder::new(alloc);
+    let a = builder.input(&Name::new(alloc, b"a")?, 3)?;
+    let q = builder.output(&Name::new(alloc, b"q")?, 4)?;
+    let m = builder.memory(4, 4)?;
+    let one = builder.constant(bits(&rt, 1, 1))?;
+    let nine = builder.constant(bits(&rt, 4, 9))?;
+    builder.write(m, one, a, nine)?;
+    let read = builder.read(m, a)?;
+    builder.drive(q, read)?;
+    assert!(rt; is_written(&rt, alloc, &builder.finish(), MEMORY)?);
+    Ok(())
+}

@@ -1,0 +1,228 @@
+use hc_cli::run_one;
+use hc_outside::{MemSink, MemSource};
+use std::alloc::Global;
+use std::process::Abort;
+use std::test::Fail;
+
+const USAGE: &str = "usage: hardcaml COMMAND [--workers N] [--flat] [--seed N]\n";
+
+const ADDER: &str = "circuit add8\ninput a 8\ninput b 8\noutput s 8\nassign s add(a,b)\ntop add8\n";
+
+const ADDER_VERILOG: &str =
+    "module add8 (\n  input clock,\n  input [7:0] a,\n  input [7:0] b,\n  output [7:0] s\n);\n  wire [7:0] n1;\n  assign s = n1;\n  assign n1 = a + b;\nendmodule\n";
+
+const SHARED: &str =
+    "circuit a\ninput x 1\noutput y 1\nassign y not(x)\ncircuit b\ninput x 1\noutput y 1\nassign y not(x)\ncircuit t\ninput x 1\noutput y 1\ninst u a : x=x\ninst v b : x=u.y\nassign y v.y\ntop t\n";
+
+const TWO_WIDTHS: &str =
+    "circuit add8\ninput a 8\ninput b 4\noutput s 8\nassign s add(a,b)\ntop add8\n";
+
+const OPERATION: &str = "circuit t\ninput x 8\noutput y 4\nassign y op.popcount(x)\ntop t\n";
+
+const MUX: &str =
+    "circuit t\ninput s 2\ninput a 4\noutput y 4\nassign y mux(s,a,const(4,2),const(4,9))\ntop t\nbench\nset s 3\nset a 5\ncycle\nend\n";
+
+const MUX_NEGATIVE: &str =
+    "circuit t\ninput s 2\ninput a 4\noutput y 4\nassign y mux(s,a,const(4,2),const(4,9))\ntop t\nbench\nset s -1\nset a 5\ncycle\nend\n";
+
+const NO_PORT: &str =
+    "circuit t\ninput s 2\ninput a 4\noutput y 4\nassign y mux(s,a,const(4,2),const(4,9))\ntop t\nbench\nset z 1\nset a 5\ncycle\nend\n";
+
+const NO_VALUE: &str =
+    "circuit t\ninput s 2\ninput a 4\noutput y 4\nassign y mux(s,a,const(4,2),const(4,9))\ntop t\nbench\nset s 4\nset a 5\ncycle\nend\n";
+
+const MUX_BOTH: &str =
+    "module t (\n  input clock,\n  input [1:0] s,\n  input [3:0] a,\n  output [3:0] y\n);\n  wire [3:0] n1;\n  wire [3:0] n2;\n  wire [3:0] n3;\n  assign y = n1;\n  assign n1 = s == 2'h0 ? a : s == 2'h1 ? n2 : n3;\n  assign n2 = 4'h2;\n  assign n3 = 4'h9;\nendmodule\n\n0 y=9 | y=9\n";
+
+const SHARED_FLAT: &str =
+    "module t (\n  input clock,\n  input [0:0] x,\n  output [0:0] y\n);\n  wire [0:0] n1;\n  wire [0:0] n2;\n  wire [0:0] n3;\n  wire [0:0] n4;\n  assign y = n1;\n  assign n1 = n2;\n  assign n2 = ~n3;\n  assign n3 = n4;\n  assign n4 = ~x;\nendmodule\n";
+
+const UNREACHED: &str =
+    "circuit f n\noutput y n\nassign y const(n,1)\ncircuit t\noutput c 8\ninst q f 4 :\ninst r f 8 :\nassign c r.y\ntop t\n";
+
+const TREE: &str =
+    "circuit tree n\ninput a 16\noutput s 16\nif n==1\n  assign s a\nelse\n  inst p tree (n/2) : a=a\n  inst q tree (n-n/2) : a=a\n  assign s add(p.s,q.s)\nend\ntop tree 64\nbench\nset a 3\ncycle\nend\n";
+
+const REGISTER: &str =
+    "circuit t\ninput d 8\ninput en 1\ninput clr 1\noutput q 8\nreg r d enable en clear clr 7\nassign q r\ntop t\nbench\nset d 3\nset en 1\ncycle\nset clr 1\ncycle\nend\n";
+
+const MEMORY: &str =
+    "circuit t\ninput a 3\noutput q 4\nmemory m 4 4\nwrite m const(1,1) a const(4,9)\nwrite m const(1,1) a const(4,5)\nassign q read(m,a)\ntop t\nbench\nset a 2\ncycle\nset a 6\ncycle\nend\n";
+
+const CROSSING: &str =
+    "circuit c\ninput i 1\ninput j 1\noutput o 1\noutput p 1\nassign o not(i)\nassign p not(j)\ncircuit t\ninput x 1\noutput y 1\nwire w 1\ninst u c : i=x j=w\nassign w u.o\nassign y u.p\ntop t\nbench\nset x 1\ncycle\nend\n";
+
+const LOOP: &str =
+    "circuit c\ninput i 1\ninput j 1\noutput o 1\noutput p 1\nassign o xor(i,j)\nassign p not(j)\ncircuit t\ninput x 1\noutput y 1\nwire w 1\ninst u c : i=x j=w\nassign w u.o\nassign y u.p\ntop t\nbench\nset x 1\ncycle\nend\n";
+
+const COUNTER: &str =
+    "circuit t\noutput q 8\nwire n 8\nreg r n init 5\nassign n add(r,const(8,1))\nassign q r\ntop t\nbench\ncycle 3\nreset\ncycle\nend\n";
+
+const MILLION: &str =
+    "circuit t\noutput q 8\nwire n 8\nreg r n init 5\nassign n add(r,const(8,1))\nassign q r\ntop t\nbench\ncycle 1000000\nend\n";
+
+const TOO_MANY: &str =
+    "circuit t\noutput q 8\nwire n 8\nreg r n init 5\nassign n add(r,const(8,1))\nassign q r\ntop t\nbench\ncycle 1000001\nend\n";
+
+const TOO_DEEP: &str =
+    "circuit d n\noutput y 1\nif n>1\ninst u d (n-1) :\nassign y u.y\nelse\nassign y const(1,1)\nend\ntop d 65\n";
+
+const TOO_DEEP_LINE: &str =
+    "F29 TooDeep line 4 path /u/u/u/u/u/u/u/u/u/u/u/u/u/u/u/u/u/u/u/u/u/u/u/u/u/u/u/u/u/u/u/u/u/u/u/u/u/u/u/u/u/u/u/u/u/u/u/u/u/u/u/u/u/u/u/u/u/u/u/u/u/u/u\n";
+
+/// The status and the bytes of a run, how many turns and entries were handed out.
+#[derive(Drop)]
+struct Ran {
+    status: u8,
+    written: Vec<u8>,
+    turns: usize,
+    entries: usize,
+}
+
+/// A run whose source fails at the call `failing`, and whose sink has this room. The words stand between spaces.
+fn run<R: Abort>(
+    rt: &R,
+    alloc: Global,
+    line: &str,
+    text: &[u8],
+    failing: Option<u64>,
+    room: usize,
+) -> Result<Ran, Fail> {
+    let mut words = Vec::new(alloc);
+    for word in line.split(' ') {
+        words.push(String::from_str(alloc, word)?)?;
+    }
+    let mut fails = Vec::new(alloc);
+    if let Some(call) = failing {
+        fails.push(call)?;
+    }
+    let text = Vec::from_slice(alloc, text)?;
+    let mut source = MemSource::new(text, fails, 8);
+    let mut sink = match MemSink::new(alloc, room, Vec::new(alloc), 4096) {
+        Ok(sink) => sink,
+        Err(_) => panic!(rt; "no sink"),
+    };
+    let outcome = run_one(alloc, &words, &mut source, &mut sink);
+    Ok(Ran {
+        status: outcome.status,
+        written: Vec::from_slice(alloc, sink.bytes())?,
+        turns: outcome.turns.len(),
+        entries: outcome.entries.len(),
+    })
+}
+
+#[test]
+fn texts_end_as_told(rt: HostRuntime) -> Result<(), Fail> {
+    let rows = [
+        ("verilog", ADDER, 0, ADDER_VERILOG),
+        (
+            "verilog",
+            TWO_WIDTHS,
+            1,
+            "F15 WidthMismatch line 5 path /\n",
+        ),
+        ("verilog", OPERATION, 6, ""),
+        ("vhdl", ADDER, 2, USAGE),
+    ];
+    for (word, text, status, written) in rows {
+        let ran = run(&rt, rt.alloc(), word, text.as_bytes(), None, 1000)?;
+        assert!(rt;
+            ran.status == status && ran.written.as_slice() == written.as_bytes(),
+            "{text}"
+        );
+    }
+    Ok(())
+}
+
+#[test]
+fn benches_end_as_told(rt: HostRuntime) -> Result<(), Fail> {
+    let rows = [
+        ("sim", "", 1, "F8 NoTop line 0 path -\n"),
+        ("both", "", 1, "F8 NoTop line 0 path -\n"),
+        ("stat", "", 1, "F8 NoTop line 0 path -\n"),
+        ("sim", ADDER, 0, ""),
+        ("sim", MUX, 0, "0 y=9 | y=9\n"),
+        ("both", MUX, 0, MUX_BOTH),
+        ("sim", MUX_NEGATIVE, 0, "0 y=9 | y=9\n"),
+        ("sim", NO_PORT, 1, "F34 BenchPort line 8 path -\n"),
+        ("verilog", NO_PORT, 1, "F34 BenchPort line 8 path -\n"),
+        ("stat --flat", NO_VALUE, 1, "F35 BenchValue line 8 path -\n"),
+        ("verilog --flat", SHARED, 0, SHARED_FLAT),
+        (
+            "stat",
+            UNREACHED,
+            0,
+            "instances 3\nentries 3\nmodules 2\nweight 17\nwords 0\ncycles 0\n",
+        ),
+        ("sim", CROSSING, 0, "0 y=1 | y=1\n"),
+        ("sim", LOOP, 1, "F33 CombLoop line 0 path /\n"),
+        ("sim", REGISTER, 0, "0 q=00 | q=03\n1 q=03 | q=07\n"),
+        ("sim --flat", REGISTER, 0, "0 q=00 | q=03\n1 q=03 | q=07\n"),
+        ("sim", MEMORY, 0, "0 q=0 | q=5\n1 q=0 | q=0\n"),
+        ("sim", TREE, 0, "0 s=00c0 | s=00c0\n"),
+        (
+            "stat",
+            TREE,
+            0,
+            "instances 127\nentries 7\nmodules 7\nweight 1454\nwords 0\ncycles 1\n",
+        ),
+        (
+            "sim",
+            COUNTER,
+            0,
+            "0 q=05 | q=06\n1 q=06 | q=07\n2 q=07 | q=08\n3 q=05 | q=06\n",
+        ),
+        (
+            "stat",
+            MILLION,
+            0,
+            "instances 1\nentries 1\nmodules 1\nweight 14\nwords 0\ncycles 1000000\n",
+        ),
+        ("sim", TOO_MANY, 1, "F36 TooManyCycles line 9 path -\n"),
+        ("both", TOO_DEEP, 1, TOO_DEEP_LINE),
+    ];
+    for (words, text, status, written) in rows {
+        let ran = run(&rt, rt.alloc(), words, text.as_bytes(), None, 2000)?;
+        assert!(rt;
+            ran.status == status && ran.written.as_slice() == written.as_bytes(),
+            "{words}: {text}"
+        );
+    }
+    Ok(())
+}
+
+#[test]
+fn ends_outside(rt: HostRuntime) -> Result<(), Fail> {
+    let adder = ADDER.as_bytes();
+    let read = run(&rt, rt.alloc(), "verilog", adder, Some(1), 1000)?;
+    assert!(rt; read.status == 3 && read.written.is_empty() && read.turns == 0);
+    let write = run(&rt, rt.alloc(), "verilog", adder, None, 10)?;
+    assert!(rt; write.status == 4 && write.written.as_slice() == b"module add".as_slice());
+    assert!(rt; write.turns == 1 && write.entries == 1);
+    let long = vec![in rt.alloc(); b' '; 4_194_305]?;
+    let long = run(&rt, rt.alloc(), "verilog", &long, None, 1000)?;
+    assert!(rt;
+        long.status == 1 && long.written.as_slice() == b"F1 TooLong line 0 path -\n".as_slice()
+    );
+    Ok(())
+}
+
+#[test]
+fn histories_are_handed_out(rt: HostRuntime) -> Result<(), Fail> {
+    let shared = run(&rt, rt.alloc(), "verilog", SHARED.as_bytes(), None, 1000)?;
+    assert!(rt; shared.turns == 3 && shared.entries == 2);
+    let refused = run(&rt, rt.alloc(), "sim", NO_PORT.as_bytes(), None, 1000)?;
+    assert!(rt; refused.turns == 1 && refused.entries == 1);
+    let cut = run(&rt, rt.alloc(), "sim", COUNTER.as_bytes(), None, 20)?;
+    assert!(rt; cut.status == 4 && cut.written.as_slice() == b"0 q=05 | q=06\n1 q=06".as_slice());
+    let faulty = run(
+        &rt,
+        rt.alloc(),
+        "verilog",
+        TWO_WIDTHS.as_bytes(),
+        None,
+        1000,
+    )?;
+    assert!(rt; faulty.turns == 0 && faulty.entries == 0);
+    Ok(())
+}

@@ -1,0 +1,13 @@
+//! Tests of the outside, the words, benches, elaboration and the top call, through their public calls.
+#![tactic(auto)]
+
+#[cfg(test)]
+mod bench;
+#[cfg(test)]
+mod cli;
+#[cfg(test)]
+mod elab;
+#[cfg(test)]
+mod outside;
+#[cfg(test)]
+mod words;

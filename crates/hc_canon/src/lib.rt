@@ -20,4 +20,3 @@ pub use laws::{
 };
 pub use numbers::Numbers;
 pub use renumber::{Renumber, new_ids, ports_copy};
-

@@ -8,4 +8,3 @@ mod undriven;
 
 pub use laws::one_verdict;
 pub use rules::{CheckStop, check};
-

@@ -1,6 +1,6 @@
-use hc_dbstate::{DbState, Turn};
 use hc_canon::{EntryId, canon};
 use hc_check::check;
+use hc_dbstate::{DbState, Turn};
 use hc_fault::Name;
 use hc_signal::{Builder, Circuit, NodeId, Op2};
 use std::alloc::Global;

@@ -1,6 +1,6 @@
-use hc_flattext::flat_text;
 use hc_check::check;
 use hc_fault::Name;
+use hc_flattext::flat_text;
 use hc_signal::Builder;
 use std::test::Fail;
 

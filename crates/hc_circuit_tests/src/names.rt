@@ -1,6 +1,6 @@
-use hc_names::{Names, Used};
 use hc_canon::EntryId;
 use hc_fault::Name;
+use hc_names::{Names, Used};
 use std::test::Fail;
 
 #[test]

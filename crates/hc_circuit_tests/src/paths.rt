@@ -2,11 +2,11 @@ ghost use Rattle.std.specs.Prelude.{◌≡◌, ◌∷◌, [], IfOk, map, length}
 ghost use Rattle.hc_signal.specs.declared.signal.Port.{Port};
 ghost use Rattle.hc_signal.specs.Lawful.{ArePorts};
 
-use hc_paths::{loops_and_masks_compose, loops_of_flat_nodes};
-use hc_paths::kinds::{PathStop, Paths};
-use hc_paths::make::{paths, schedule};
 use hc_bits::Bits;
 use hc_fault::Name;
+use hc_paths::kinds::{PathStop, Paths};
+use hc_paths::make::{paths, schedule};
+use hc_paths::{loops_and_masks_compose, loops_of_flat_nodes};
 use hc_signal::{Builder, Circuit, NodeId, Op2};
 use std::alloc::Global;
 use std::process::Abort;

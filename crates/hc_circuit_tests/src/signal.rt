@@ -4,9 +4,9 @@ ghost use Rattle.hc_signal.specs.declared.signal.Port.{Port};
 ghost use Rattle.hc_signal.specs.Builds.{HasOutput};
 ghost use Rattle.hc_signal.specs.Weight.{graph_weight};
 
-use hc_signal::{BuildStop, Builder, Circuit, Ids, InstId, NodeId, NodeRow, Op2, Port};
 use hc_bits::{Bits, OpKind};
 use hc_fault::{FaultKind, Name};
+use hc_signal::{BuildStop, Builder, Circuit, Ids, InstId, NodeId, NodeRow, Op2, Port};
 use std::alloc::Global;
 use std::process::Abort;
 use std::test::Fail;

@@ -1,13 +1,13 @@
 ghost use Rattle.std.specs.Prelude.{◌≡◌};
 
 use crate::builders::room;
-use hc_verilog::module_text;
 use hc_bits::Bits;
 use hc_canon::canon;
 use hc_check::check;
 use hc_fault::Name;
 use hc_names::Names;
 use hc_signal::{Builder, Circuit};
+use hc_verilog::module_text;
 use std::alloc::Global;
 use std::process::Abort;
 use std::test::Fail;

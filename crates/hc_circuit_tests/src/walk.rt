@@ -1,6 +1,6 @@
-use hc_walk::{VertexId, one_walk, walk};
 use hc_fault::Name;
 use hc_signal::{Builder, Circuit, NodeId, Op2};
+use hc_walk::{VertexId, one_walk, walk};
 use std::alloc::Global;
 use std::test::Fail;
 

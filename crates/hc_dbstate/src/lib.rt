@@ -14,4 +14,3 @@ pub use laws::{
     made_forms_tell_trees_apart, unfoldings_are_of_kids,
 };
 pub use turns::{Entered, Turn};
-

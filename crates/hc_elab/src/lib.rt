@@ -10,4 +10,3 @@ mod sums;
 pub use elab::elab_one;
 pub use laws::{designs_elaborate_once, elaborated_trees};
 pub use sums::Sums;
-

@@ -8,4 +8,3 @@ mod writing;
 pub use carried::same_trees_flatten_alike;
 pub use laws::{flat_graphs_are_isomorphic, flat_texts_are_single};
 pub use writing::flat_text;
-

@@ -8,4 +8,3 @@ mod used;
 pub use names::Names;
 pub use naming::assign;
 pub use used::{Used, names_are_single};
-

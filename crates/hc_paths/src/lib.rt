@@ -13,4 +13,3 @@ mod reached;
 mod search;
 
 pub use laws::{loops_and_masks_compose, loops_of_flat_nodes};
-

@@ -1,5 +1,5 @@
-use hc_elab::elab_one;
 use hc_dbstate::{DbState, Hier};
+use hc_elab::elab_one;
 use hc_fault::{FaultKind, NoMemory, Refused};
 use hc_lang::parse;
 use std::alloc::Global;

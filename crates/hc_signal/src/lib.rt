@@ -13,4 +13,3 @@ pub use signal::{
     Ids, InstId, Instance, MemId, Memory, Node, NodeId, NodeRow, Op2, Port, Ports, WritePort,
 };
 pub use stop::BuildStop;
-

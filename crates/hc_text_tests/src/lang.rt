@@ -1,5 +1,5 @@
-use hc_lang::parse;
 use hc_fault::{FaultKind, NoMemory, Refused};
+use hc_lang::parse;
 use std::alloc::{AllocError, Global};
 use std::process::Abort;
 use std::test::Fail;

@@ -1,6 +1,6 @@
-use hc_num::{Env, eval};
 use hc_fault::{FaultKind, Name};
 use hc_lang::{Num, NumOp};
+use hc_num::{Env, eval};
 use sqlite_items::Boxed;
 use std::alloc::Global;
 use std::test::Fail;

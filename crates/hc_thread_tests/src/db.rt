@@ -4,9 +4,9 @@ ghost use Rattle.hc_turn.specs.Passes.{mine, share, HoldsNothing, IsOf};
 ghost use Rattle.hc_dbstate.specs.History.{log};
 ghost use Rattle.hc_db.specs.Database.{lock_of};
 
-use hc_db::{Db, Pass};
 use hc_canon::{EntryId, Form, canon};
 use hc_check::check;
+use hc_db::{Db, Pass};
 use hc_dbstate::{DbState, Turn};
 use hc_fault::{Name, NoMemory};
 use hc_signal::{BuildStop, Builder, Circuit};

@@ -3,8 +3,8 @@ ghost use Rattle.std.specs.Prelude.{◌≡◌, ◌+◌, ◌-◌, ◌^◌, ◌<�
 ghost use Rattle.hc_turn.specs.Views.{whole};
 ghost use Rattle.hc_turn.specs.Passes.{known, mine, share, HoldsNothing, IsOf};
 
-use hc_turn::{Logged, Pass, TurnLock};
 use hc_fault::NoMemory;
+use hc_turn::{Logged, Pass, TurnLock};
 use std::alloc::Global;
 use std::sync::Wait;
 use std::test::*;

@@ -15,4 +15,3 @@ mod text;
 
 pub use form_text::module_text;
 pub use laws::{module_texts_are_single, names_taken_are_single, tree_texts_are_single};
-

@@ -10,4 +10,3 @@ mod waiting;
 pub use depth_first::walk;
 pub use laws::one_walk;
 pub use vertex::VertexId;
-

@@ -240,11 +240,11 @@ write_all : Last (Then IsIdent WriteRest) (λ d. seq (ident_at d) (seq (signal_a
 write_all = then_last IsIdent WriteRest ident_at (λ d. seq (signal_at d) (seq (signal_at d) (signal_at d))) ident_part (then_last IsSig (Then IsSig IsSig) signal_at (λ d. seq (signal_at d) (signal_at d)) sig_part (then_last IsSig IsSig signal_at signal_at sig_part sig_last))
 
 write_found : (ts us vs ws : Tokens) (i : IdentText) (e a v : Sig) → IsIdent ts i → IsSig us e → IsSig vs a → IsSig ws v → Found key.Write (ts ++ (us ++ (vs ++ ws))) (g.Simple (what.Write i e a v))
-unfolding r.line_by r.write_line
+unfolding r.line_by r.write_line r.write_parts r.two_signals
 write_found ts us vs ws i e a v h k j m d l = line_found (Then IsIdent WriteRest) (λ d. seq (ident_at d) (seq (signal_at d) (seq (signal_at d) (signal_at d)))) write_all (λ p. g.Simple (what.Write p.0 p.1.0 p.1.1.0 p.1.1.1)) (ts ++ (us ++ (vs ++ ws))) (i, (e, (a, v))) (ts, us ++ (vs ++ ws), refl, h, (us, vs ++ ws, refl, k, (vs, ws, refl, j, m))) d 0 (omega arith)
 
 write_sound : (d : ℕ) (ts : Tokens) (l : Line) → line_by key.Write d ts ≡ Some l → Spelled key.Write d ts l
-unfolding r.line_by r.write_line
+unfolding r.line_by r.write_line r.write_parts r.two_signals
 write_sound d ts l e =
     let s = line_sound (Then IsIdent WriteRest) (λ d. seq (ident_at d) (seq (signal_at d) (seq (signal_at d) (signal_at d)))) write_all (λ p. g.Simple (what.Write p.0 p.1.0 p.1.1.0 p.1.1.1)) d ts l e in (
       subst (λ x. IsForm (Word (written key.Write) ∷ ts) x) s.1 (then_elim IsIdent WriteRest (λ us. IsForm (Word (written key.Write) ∷ us) (g.Simple (what.Write s.0.0 s.0.1.0 s.0.1.1.0 s.0.1.1.1))) ts s.0 s.2 (λ xs ys x y.

@@ -128,8 +128,15 @@ reg_line d ts = whole_of (seq (ident_at d) (seq (signal_at d) (reg_parts d)) ts)
 unfoldable pub memory_line : ℕ → Tokens → Option Line
 memory_line d ts = whole_of (seq (ident_at d) (seq (atom_at d) (atom_at d)) ts) (λ p. g.Simple (what.Memory p.0 p.1.0 p.1.1))
 
+unfoldable pub two_signals : ℕ → Read (Sig × Sig)
+two_signals d = seq (signal_at d) (signal_at d)
+
+-- enable, address and value of a write port
+unfoldable pub write_parts : ℕ → Read (Sig × (Sig × Sig))
+write_parts d = seq (signal_at d) (two_signals d)
+
 unfoldable pub write_line : ℕ → Tokens → Option Line
-write_line d ts = whole_of (seq (ident_at d) (seq (signal_at d) (seq (signal_at d) (signal_at d))) ts) (λ p. g.Simple (what.Write p.0 p.1.0 p.1.1.0 p.1.1.1))
+write_line d ts = whole_of (seq (ident_at d) (write_parts d) ts) (λ p. g.Simple (what.Write p.0 p.1.0 p.1.1.0 p.1.1.1))
 
 unfoldable pub inst_line : ℕ → Tokens → Option Line
 inst_line d ts = whole_of (seq (ident_at d) (seq name (seq (all_items past_colon (atom_at d)) (all_items past_end (conn d)))) ts) (λ p. g.Simple (what.Inst p.0 p.1.0 p.1.1.0 p.1.1.1))

@@ -190,6 +190,17 @@ fn is_end(tokens: &[Token]) -> bool
     }
 }
 
+/// What was read, where the tokens end here.
+fn whole<T: Drop>(read: T, rest: &[Token]) -> Result<T, Stop>
+    ensures { Returns (λ x. x) result (r.at_end read rest.now) }
+{
+    if is_end(rest) {
+        Ok(read)
+    } else {
+        Err(Stop::Syntax)
+    }
+}
+
 /// A connection of an instance.
 fn conn(alloc: Global, tokens: &[Token], depth: usize) -> Result<((Name, Sig), &[Token]), Stop>
     ensures { Returns (λ x. (x.0, x.1.now)) result (r.conn depth tokens.now) }
@@ -420,10 +431,7 @@ fn circuit_line(alloc: Global, tokens: &[Token]) -> Result<Line, Stop>
 {
     let (name, rest) = name(alloc, tokens)?;
     let (params, rest) = names(alloc, rest)?;
-    if !is_end(rest) {
-        return Err(Stop::Syntax);
-    }
-    Ok(Line::Circuit { name, params })
+    whole(Line::Circuit { name, params }, rest)
 }
 
 #[tactic(auto, unfolding(crate::specs::LineReading::port_line))]
@@ -432,14 +440,14 @@ fn port_line(alloc: Global, is_input: bool, tokens: &[Token], depth: usize) -> R
 {
     let (name, rest) = name(alloc, tokens)?;
     let (width, rest) = number(alloc, rest, depth)?;
-    if !is_end(rest) {
-        return Err(Stop::Syntax);
-    }
-    Ok(Line::Port {
-        is_input,
-        name,
-        width,
-    })
+    whole(
+        Line::Port {
+            is_input,
+            name,
+            width,
+        },
+        rest,
+    )
 }
 
 #[tactic(auto, unfolding(crate::specs::LineReading::let_line))]
@@ -448,10 +456,7 @@ fn let_line(alloc: Global, tokens: &[Token], depth: usize) -> Result<Line, Stop>
 {
     let (to, rest) = ident(alloc, tokens, depth)?;
     let (sig, rest) = signal(alloc, rest, depth)?;
-    if !is_end(rest) {
-        return Err(Stop::Syntax);
-    }
-    Ok(Line::Simple(What::Let { to, sig }))
+    whole(Line::Simple(What::Let { to, sig }), rest)
 }
 
 #[tactic(auto, unfolding(crate::specs::LineReading::wire_line))]
@@ -460,10 +465,7 @@ fn wire_line(alloc: Global, tokens: &[Token], depth: usize) -> Result<Line, Stop
 {
     let (to, rest) = ident(alloc, tokens, depth)?;
     let (width, rest) = number(alloc, rest, depth)?;
-    if !is_end(rest) {
-        return Err(Stop::Syntax);
-    }
-    Ok(Line::Simple(What::Wire { to, width }))
+    whole(Line::Simple(What::Wire { to, width }), rest)
 }
 
 #[tactic(auto, unfolding(crate::specs::LineReading::assign_line))]
@@ -472,10 +474,7 @@ fn assign_line(alloc: Global, tokens: &[Token], depth: usize) -> Result<Line, St
 {
     let (to, rest) = ident(alloc, tokens, depth)?;
     let (sig, rest) = signal(alloc, rest, depth)?;
-    if !is_end(rest) {
-        return Err(Stop::Syntax);
-    }
-    Ok(Line::Simple(What::Assign { to, sig }))
+    whole(Line::Simple(What::Assign { to, sig }), rest)
 }
 
 #[tactic(auto, unfolding(crate::specs::LineReading::label_line))]
@@ -484,10 +483,7 @@ fn label_line(alloc: Global, tokens: &[Token], depth: usize) -> Result<Line, Sto
 {
     let (to, rest) = ident(alloc, tokens, depth)?;
     let (label, rest) = name(alloc, rest)?;
-    if !is_end(rest) {
-        return Err(Stop::Syntax);
-    }
-    Ok(Line::Simple(What::Label { to, label }))
+    whole(Line::Simple(What::Label { to, label }), rest)
 }
 
 #[tactic(auto, unfolding(crate::specs::LineReading::clear_parts))]
@@ -523,16 +519,16 @@ fn reg_line(alloc: Global, tokens: &[Token], depth: usize) -> Result<Line, Stop>
     let (to, rest) = ident(alloc, tokens, depth)?;
     let (next, rest) = signal(alloc, rest, depth)?;
     let ((enable, (clear, init)), rest) = reg_parts(alloc, rest, depth)?;
-    if !is_end(rest) {
-        return Err(Stop::Syntax);
-    }
-    Ok(Line::Simple(What::Reg {
-        to,
-        next,
-        enable,
-        clear,
-        init,
-    }))
+    whole(
+        Line::Simple(What::Reg {
+            to,
+            next,
+            enable,
+            clear,
+            init,
+        }),
+        rest,
+    )
 }
 
 #[tactic(auto, unfolding(crate::specs::LineReading::memory_line))]
@@ -542,10 +538,34 @@ fn memory_line(alloc: Global, tokens: &[Token], depth: usize) -> Result<Line, St
     let (to, rest) = ident(alloc, tokens, depth)?;
     let (size, rest) = atom(alloc, rest, depth)?;
     let (width, rest) = atom(alloc, rest, depth)?;
-    if !is_end(rest) {
-        return Err(Stop::Syntax);
-    }
-    Ok(Line::Simple(What::Memory { to, size, width }))
+    whole(Line::Simple(What::Memory { to, size, width }), rest)
+}
+
+#[tactic(auto, unfolding(crate::specs::LineReading::two_signals))]
+fn two_signals(
+    alloc: Global,
+    tokens: &[Token],
+    depth: usize,
+) -> Result<((Sig, Sig), &[Token]), Stop>
+    ensures { Returns (λ x. (x.0, x.1.now)) result (r.two_signals depth tokens.now) }
+{
+    let (first, rest) = signal(alloc, tokens, depth)?;
+    let (second, rest) = signal(alloc, rest, depth)?;
+    Ok(((first, second), rest))
+}
+
+/// Enable, address and value of a write port.
+#[tactic(auto, unfolding(crate::specs::LineReading::write_parts))]
+fn write_parts(
+    alloc: Global,
+    tokens: &[Token],
+    depth: usize,
+) -> Result<((Sig, (Sig, Sig)), &[Token]), Stop>
+    ensures { Returns (λ x. (x.0, x.1.now)) result (r.write_parts depth tokens.now) }
+{
+    let (enable, rest) = signal(alloc, tokens, depth)?;
+    let (parts, rest) = two_signals(alloc, rest, depth)?;
+    Ok(((enable, parts), rest))
 }
 
 #[tactic(auto, unfolding(crate::specs::LineReading::write_line))]
@@ -553,18 +573,16 @@ fn write_line(alloc: Global, tokens: &[Token], depth: usize) -> Result<Line, Sto
     ensures { Returns (λ x. x) result (r.write_line depth tokens.now) }
 {
     let (to, rest) = ident(alloc, tokens, depth)?;
-    let (enable, rest) = signal(alloc, rest, depth)?;
-    let (addr, rest) = signal(alloc, rest, depth)?;
-    let (value, rest) = signal(alloc, rest, depth)?;
-    if !is_end(rest) {
-        return Err(Stop::Syntax);
-    }
-    Ok(Line::Simple(What::Write {
-        to,
-        enable,
-        addr,
-        value,
-    }))
+    let ((enable, (addr, value)), rest) = write_parts(alloc, rest, depth)?;
+    whole(
+        Line::Simple(What::Write {
+            to,
+            enable,
+            addr,
+            value,
+        }),
+        rest,
+    )
 }
 
 #[tactic(auto, unfolding(crate::specs::LineReading::inst_line))]
@@ -575,15 +593,15 @@ fn inst_line(alloc: Global, tokens: &[Token], depth: usize) -> Result<Line, Stop
     let (of, rest) = name(alloc, rest)?;
     let (args, rest) = args(alloc, rest, depth)?;
     let (conns, rest) = conns(alloc, rest, depth)?;
-    if !is_end(rest) {
-        return Err(Stop::Syntax);
-    }
-    Ok(Line::Simple(What::Inst {
-        to,
-        of,
-        args,
-        conns,
-    }))
+    whole(
+        Line::Simple(What::Inst {
+            to,
+            of,
+            args,
+            conns,
+        }),
+        rest,
+    )
 }
 
 #[tactic(auto, unfolding(crate::specs::LineReading::for_line))]
@@ -593,10 +611,7 @@ fn for_line(alloc: Global, tokens: &[Token], depth: usize) -> Result<Line, Stop>
     let (var, rest) = name(alloc, tokens)?;
     let (from, rest) = atom(alloc, rest, depth)?;
     let (upto, rest) = atom(alloc, rest, depth)?;
-    if !is_end(rest) {
-        return Err(Stop::Syntax);
-    }
-    Ok(Line::For { var, from, upto })
+    whole(Line::For { var, from, upto }, rest)
 }
 
 #[tactic(auto, unfolding(crate::specs::LineReading::if_line))]
@@ -604,10 +619,7 @@ fn if_line(alloc: Global, tokens: &[Token], depth: usize) -> Result<Line, Stop>
     ensures { Returns (λ x. x) result (r.if_line depth tokens.now) }
 {
     let (cond, rest) = number(alloc, tokens, depth)?;
-    if !is_end(rest) {
-        return Err(Stop::Syntax);
-    }
-    Ok(Line::If(cond))
+    whole(Line::If(cond), rest)
 }
 
 #[tactic(auto, unfolding(crate::specs::LineReading::top_line))]
@@ -616,10 +628,7 @@ fn top_line(alloc: Global, tokens: &[Token], depth: usize) -> Result<Line, Stop>
 {
     let (name, rest) = name(alloc, tokens)?;
     let (args, rest) = top_args(alloc, rest, depth)?;
-    if !is_end(rest) {
-        return Err(Stop::Syntax);
-    }
-    Ok(Line::Top { name, args })
+    whole(Line::Top { name, args }, rest)
 }
 
 #[tactic(auto, unfolding(crate::specs::LineReading::set_line))]
@@ -628,10 +637,7 @@ fn set_line(alloc: Global, tokens: &[Token]) -> Result<Line, Stop>
 {
     let (port, rest) = name(alloc, tokens)?;
     let (value, rest) = value_of(rest)?;
-    if !is_end(rest) {
-        return Err(Stop::Syntax);
-    }
-    Ok(Line::Step(BenchWhat::Set { port, value }))
+    whole(Line::Step(BenchWhat::Set { port, value }), rest)
 }
 
 fn cycle_line(tokens: &[Token]) -> Result<Line, Stop>

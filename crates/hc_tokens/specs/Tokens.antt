@@ -61,7 +61,7 @@ first_is p (b ∷ bytes) = p b
 
 -- how signs are written, a longer one before its beginning
 abbrev pub signs : List (List ℕ × Token)
-signs = (codes "<=", Operator num_op.Le) ∷ (codes ">=", Operator num_op.Ge) ∷ (codes "==", Operator num_op.Eq) ∷ (codes "!=", Operator num_op.Ne) ∷ (codes "<", Operator num_op.Lt) ∷ (codes ">", Operator num_op.Gt) ∷ (codes "+", Operator num_op.Add) ∷ (codes "-", Operator num_op.Sub) ∷ (codes "*", Operator num_op.Mul) ∷ (codes "/", Operator num_op.Div) ∷ (codes "%", Operator num_op.Rem) ∷ (codes "(", Mark mark.OpenRound) ∷ (codes ")", Mark mark.CloseRound) ∷ (codes "[", Mark mark.OpenSquare) ∷ (codes "]", Mark mark.CloseSquare) ∷ (codes ",", Mark mark.Comma) ∷ (codes ":", Mark mark.Colon) ∷ (codes "=", Mark mark.Equals) ∷ (codes ".", Mark mark.Dot) ∷ []
+signs = (codes "(", Mark mark.OpenRound) ∷ (codes ")", Mark mark.CloseRound) ∷ (codes "[", Mark mark.OpenSquare) ∷ (codes "]", Mark mark.CloseSquare) ∷ (codes ",", Mark mark.Comma) ∷ (codes ":", Mark mark.Colon) ∷ (codes ".", Mark mark.Dot) ∷ (codes "<=", Operator num_op.Le) ∷ (codes ">=", Operator num_op.Ge) ∷ (codes "==", Operator num_op.Eq) ∷ (codes "!=", Operator num_op.Ne) ∷ (codes "<", Operator num_op.Lt) ∷ (codes ">", Operator num_op.Gt) ∷ (codes "+", Operator num_op.Add) ∷ (codes "-", Operator num_op.Sub) ∷ (codes "*", Operator num_op.Mul) ∷ (codes "/", Operator num_op.Div) ∷ (codes "%", Operator num_op.Rem) ∷ (codes "=", Mark mark.Equals) ∷ []
 
 -- a token and how many bytes it takes
 abbrev pub Front : Type 0

@@ -254,8 +254,15 @@ pub enum Sign {
     Mark(Mark),
 }
 
-/// The signs, a longer one before its beginning.
+/// The signs, frequent ones first, and a longer one before its beginning.
 const SIGNS: [(&[u8], Sign); 19] = [
+    (b"(", Sign::Mark(Mark::OpenRound)),
+    (b")", Sign::Mark(Mark::CloseRound)),
+    (b"[", Sign::Mark(Mark::OpenSquare)),
+    (b"]", Sign::Mark(Mark::CloseSquare)),
+    (b",", Sign::Mark(Mark::Comma)),
+    (b":", Sign::Mark(Mark::Colon)),
+    (b".", Sign::Mark(Mark::Dot)),
     (b"<=", Sign::Operator(NumOp::Le)),
     (b">=", Sign::Operator(NumOp::Ge)),
     (b"==", Sign::Operator(NumOp::Eq)),
@@ -267,14 +274,7 @@ const SIGNS: [(&[u8], Sign); 19] = [
     (b"*", Sign::Operator(NumOp::Mul)),
     (b"/", Sign::Operator(NumOp::Div)),
     (b"%", Sign::Operator(NumOp::Rem)),
-    (b"(", Sign::Mark(Mark::OpenRound)),
-    (b")", Sign::Mark(Mark::CloseRound)),
-    (b"[", Sign::Mark(Mark::OpenSquare)),
-    (b"]", Sign::Mark(Mark::CloseSquare)),
-    (b",", Sign::Mark(Mark::Comma)),
-    (b":", Sign::Mark(Mark::Colon)),
     (b"=", Sign::Mark(Mark::Equals)),
-    (b".", Sign::Mark(Mark::Dot)),
 ];
 
 fn sign_token(sign: Sign) -> Token

@@ -1,85 +1,153 @@
--- What was sent piece by piece.
+-- What was handed on piece by piece.
 use Rattle.std.proofs.Common.{◌≡◌, ℕ, List, [], ◌++◌, append_assoc, append-nil, sym, ◌∙◌, ap, refl, subst, arith, ◌≤◌, inl, inr}
 use Rattle.std.proofs.KnownBytes.{Appends-nil, Appends-trans}
-use Rattle.std.specs.Prelude.{Option, Result, Ok, Err, OnErr}
+use Rattle.std.specs.Prelude.{Option, Result, Ok, Err}
 use Rattle.std.specs.Result.{IsErr}
 use Rattle.std.specs.Io.KnownBytes.{Appends}
 use Rattle.hc_outside.specs.Causes.{Rose}
 use Rattle.hc_outside.specs.Moves.{AppendsUpTo, AppendsFront}
+use Rattle.hc_bench.specs.Queued.{IsQueued}
 use Rattle.hc_bench.specs.Sent.{IsSent}
-
--- nothing was sent so far
-pub sent_none : (a : Option (List ℕ)) (bytes : List ℕ) → AppendsUpTo a a bytes bytes
-sent_none a bytes = ([], refl, Appends-nil a)
-
--- one piece more was sent
-pub sent_more : (a b c : Option (List ℕ)) (bytes rest piece after : List ℕ) → AppendsUpTo a b bytes rest → rest ≡ piece ++ after → Appends b c piece → AppendsUpTo a c bytes after
-sent_more a b c bytes rest piece after (front, whole, so_far) is more = (
-  front ++ piece,
-  whole ∙ ap (λ l. front ++ l) is ∙ sym (append_assoc front piece after),
-  Appends-trans a b c front piece so_far more,
-)
-
--- a front of one piece more was sent
-pub sent_front : (a b c : Option (List ℕ)) (bytes rest piece after : List ℕ) → AppendsUpTo a b bytes rest → rest ≡ piece ++ after → AppendsFront b c piece → AppendsFront a c bytes
-sent_front a b c bytes rest piece after so_far is (left, (front, parts, some)) =
-    (left ++ after, sent_more a b c bytes rest front (left ++ after) so_far (is ∙ ap (λ l. l ++ after) parts ∙ append_assoc front left after) some)
-
--- all was sent
-pub sent_all : (a b : Option (List ℕ)) (bytes rest : List ℕ) → AppendsUpTo a b bytes rest → rest ≡ [] → Appends a b bytes
-sent_all a b bytes rest (front, whole, so_far) none =
-    subst (Appends a b) (sym (whole ∙ ap (λ l. front ++ l) none ∙ append-nil front)) so_far
 
 pub rose_later : (a b c : ℕ) → a ≤ b → Rose b c → Rose a c
 rose_later a b c le (inl less) = inl (omega (arith, le, less))
 rose_later a b c le (inr end) = inr end
 
--- the write of a part failed, when what is before it was sent
-pub sent_cut : {T E : Type 0} (a b c : Option (List ℕ)) (k m n : ℕ) (result : Result T E) (bytes rest piece after : List ℕ) → IsErr result → AppendsUpTo a b bytes rest → k ≤ m → rest ≡ piece ++ after → AppendsFront b c piece → m ≤ n → Rose m n → IsSent a c k n result bytes
-sent_cut a b c k m n (Ok u) bytes rest piece after is so_far le parts front grows rose = absurd cc
-sent_cut a b c k m n (Err e) bytes rest piece after is so_far le parts front grows rose = record {
-  all = tt;
-  front = sent_front a b c bytes rest piece after so_far parts front;
-  cause = record { never_falls = omega (arith, le, grows); failed = rose_later k m n le rose };
+-- ---- bytes that wait, and those that a sink takes
+
+-- nothing was handed on
+pub queue_none : (a : Option (List ℕ)) (waiting : List ℕ) → AppendsUpTo a a (waiting ++ []) waiting
+queue_none a waiting = ([], append-nil waiting, Appends-nil a)
+
+-- more was handed on
+pub queue_more : (a b c : Option (List ℕ)) (waiting middle left bytes more : List ℕ) → AppendsUpTo a b (waiting ++ bytes) middle → AppendsUpTo b c (middle ++ more) left → AppendsUpTo a c (waiting ++ (bytes ++ more)) left
+queue_more a b c waiting middle left bytes more (first, parts, so_far) (last, others, then_on) = (
+  first ++ last,
+  sym (append_assoc waiting bytes more) ∙ ap (λ l. l ++ more) parts ∙ append_assoc first middle more ∙ ap (λ l. first ++ l) others ∙ sym (append_assoc first last left),
+  Appends-trans a b c first last so_far then_on,
+)
+
+-- a front of more was taken
+pub queue_front : (a b c : Option (List ℕ)) (waiting middle bytes more : List ℕ) → AppendsUpTo a b (waiting ++ bytes) middle → AppendsFront b c (middle ++ more) → AppendsFront a c (waiting ++ (bytes ++ more))
+queue_front a b c waiting middle bytes more so_far (rest, last) = (rest, queue_more a b c waiting middle rest bytes more so_far last)
+
+-- a front is a front of more
+pub front_of_more : (a b : Option (List ℕ)) (bytes more : List ℕ) → AppendsFront a b bytes → AppendsFront a b (bytes ++ more)
+front_of_more a b bytes more (rest, (front, parts, some)) = (rest ++ more, (front, ap (λ l. l ++ more) parts ∙ append_assoc front rest more, some))
+
+pub front_longer : (a b : Option (List ℕ)) (waiting bytes more : List ℕ) → AppendsFront a b (waiting ++ bytes) → AppendsFront a b (waiting ++ (bytes ++ more))
+front_longer a b waiting bytes more some = subst (AppendsFront a b) (append_assoc waiting bytes more) (front_of_more a b (waiting ++ bytes) more some)
+
+-- a front of what comes after bytes that were taken
+pub front_behind : (a b c : Option (List ℕ)) (bytes more : List ℕ) → Appends a b bytes → AppendsFront b c more → AppendsFront a c (bytes ++ more)
+front_behind a b c bytes more taken (rest, (front, parts, some)) = (rest, (bytes ++ front, ap (λ l. bytes ++ l) parts ∙ sym (append_assoc bytes front rest), Appends-trans a b c bytes front taken some))
+
+-- ---- one call
+
+-- the bytes were added to those that wait
+pub queued_later : {T E : Type 0} (a : Option (List ℕ)) (k : ℕ) (waiting left bytes : List ℕ) (x : T) → left ≡ waiting ++ bytes → IsQueued {T = T} {E = E} a a k k waiting left (Ok x) bytes
+queued_later a k waiting left bytes x is = record {
+  all = ([], sym is, Appends-nil a);
+  front = tt;
+  cause = record { never_falls = omega arith; failed = tt };
 }
 
--- the last write failed, when all before it was sent
-pub sent_last : {T E : Type 0} (a b c : Option (List ℕ)) (result : Result T E) (bytes rest : List ℕ) → AppendsUpTo a b bytes rest → OnErr result (AppendsFront b c rest) → OnErr result (AppendsFront a c bytes)
-sent_last a b c (Ok u) bytes rest so_far front = tt
-sent_last a b c (Err e) bytes rest so_far front = sent_front a b c bytes rest rest [] so_far (sym (append-nil rest)) front
+-- those that waited were written, and the bytes wait now
+pub queued_behind : {T E U : Type 0} (a b : Option (List ℕ)) (k m : ℕ) (waiting middle left bytes : List ℕ) (u : U) (x : T) → IsSent {T = U} {E = E} a b k m (Ok u) waiting → middle ≡ [] → left ≡ middle ++ bytes → IsQueued {T = T} {E = E} a b k m waiting left (Ok x) bytes
+queued_behind a b k m waiting middle left bytes u x sent empty is = record {
+  all = (waiting, ap (λ l. waiting ++ l) (sym (is ∙ ap (λ l. l ++ bytes) empty)), sent.all);
+  front = tt;
+  cause = record { never_falls = sent.cause.never_falls; failed = tt };
+}
 
--- the write of the first part failed
-pub sent_cut_first : {T E : Type 0} (a b : Option (List ℕ)) (m n : ℕ) (result : Result T E) (bytes piece after : List ℕ) → IsErr result → bytes ≡ piece ++ after → AppendsFront a b piece → m ≤ n → Rose m n → IsSent a b m n result bytes
-sent_cut_first a b m n result bytes piece after is parts front grows rose = sent_cut a a b m m n result bytes bytes piece after is (sent_none a bytes) (omega arith) parts front grows rose
-
--- one part more, when what is before it was sent
-pub sent_then : {T E U F : Type 0} (a b c : Option (List ℕ)) (k m n : ℕ) (x : T) (result : Result U F) (bytes more : List ℕ) → IsSent {T = T} {E = E} a b k m (Ok x) bytes → IsSent b c m n result more → IsSent a c k n result (bytes ++ more)
-sent_then a b c k m n x (Ok u) bytes more sent last = record {
-  all = Appends-trans a b c bytes more sent.all last.all;
+-- those that waited were written, and then the bytes
+pub queued_through : {T E U : Type 0} (a b c : Option (List ℕ)) (k m n : ℕ) (waiting left bytes : List ℕ) (u : U) (result : Result T E) → IsSent {T = U} {E = E} a b k m (Ok u) waiting → left ≡ [] → IsSent b c m n result bytes → IsQueued a c k n waiting left result bytes
+queued_through a b c k m n waiting left bytes u (Ok x) sent empty last = record {
+  all = (waiting ++ bytes, sym (append-nil (waiting ++ bytes)) ∙ ap (λ l. (waiting ++ bytes) ++ l) (sym empty), Appends-trans a b c waiting bytes sent.all last.all);
   front = tt;
   cause = record { never_falls = omega (arith, sent.cause.never_falls, last.cause.never_falls); failed = tt };
 }
-sent_then a b c k m n x (Err e) bytes more sent last = record {
+queued_through a b c k m n waiting left bytes u (Err e) sent empty last =
+    record {
+      all = tt;
+      front = front_behind a b c waiting bytes sent.all last.front;
+      cause = record { never_falls = omega (arith, sent.cause.never_falls, last.cause.never_falls); failed = rose_later k m n sent.cause.never_falls last.cause.failed };
+    }
+
+-- those that waited were not written whole
+pub queued_unsent : {T E U : Type 0} (a b : Option (List ℕ)) (k m : ℕ) (waiting left bytes : List ℕ) (e : E) (result : Result T E) → IsErr result → IsSent {T = U} {E = E} a b k m (Err e) waiting → IsQueued a b k m waiting left result bytes
+queued_unsent a b k m waiting left bytes e (Ok x) is sent = absurd cc
+queued_unsent a b k m waiting left bytes e (Err f) is sent =
+    record {
+      all = tt;
+      front = front_of_more a b waiting bytes sent.front;
+      cause = record { never_falls = sent.cause.never_falls; failed = sent.cause.failed };
+    }
+
+-- ---- call after call
+
+-- a loop handed on the bytes up to the rest
+abbrev pub QueuesUpTo : Option (List ℕ) → Option (List ℕ) → List ℕ → List ℕ → List ℕ → List ℕ → Type 0
+QueuesUpTo a b waiting left bytes rest = (done : List ℕ) × (bytes ≡ done ++ rest) × AppendsUpTo a b (waiting ++ done) left
+
+pub loop_none : (a : Option (List ℕ)) (waiting bytes : List ℕ) → QueuesUpTo a a waiting waiting bytes bytes
+loop_none a waiting bytes = ([], refl, queue_none a waiting)
+
+pub loop_more : (a b c : Option (List ℕ)) (waiting middle left bytes rest piece after : List ℕ) → QueuesUpTo a b waiting middle bytes rest → rest ≡ piece ++ after → AppendsUpTo b c (middle ++ piece) left → QueuesUpTo a c waiting left bytes after
+loop_more a b c waiting middle left bytes rest piece after (done, whole, so_far) is more = (
+  done ++ piece,
+  whole ∙ ap (λ l. done ++ l) is ∙ sym (append_assoc done piece after),
+  queue_more a b c waiting middle left done piece so_far more,
+)
+
+pub loop_end : (a b : Option (List ℕ)) (waiting left bytes rest : List ℕ) → QueuesUpTo a b waiting left bytes rest → rest ≡ [] → AppendsUpTo a b (waiting ++ bytes) left
+loop_end a b waiting left bytes rest (done, whole, so_far) none =
+    subst (λ l. AppendsUpTo a b (waiting ++ l) left) (sym (whole ∙ ap (λ l. done ++ l) none ∙ append-nil done)) so_far
+
+-- a piece failed, when those before it were handed on
+pub loop_cut : {T E : Type 0} (a b c : Option (List ℕ)) (k m n : ℕ) (waiting middle left bytes rest piece after : List ℕ) (result : Result T E) → IsErr result → QueuesUpTo a b waiting middle bytes rest → k ≤ m → rest ≡ piece ++ after → AppendsFront b c (middle ++ piece) → m ≤ n → Rose m n → IsQueued a c k n waiting left result bytes
+loop_cut a b c k m n waiting middle left bytes rest piece after (Ok u) is so_far le parts front grows rose = absurd cc
+loop_cut a b c k m n waiting middle left bytes rest piece after (Err e) is (done, whole, so_far) le parts front grows rose =
+    let all : bytes ≡ (done ++ piece) ++ after = whole ∙ ap (λ l. done ++ l) parts ∙ sym (append_assoc done piece after) in
+    record {
+      all = tt;
+      front = subst (λ l. AppendsFront a c (waiting ++ l)) (sym all) (front_longer a c waiting (done ++ piece) after (queue_front a b c waiting middle done piece so_far front));
+      cause = record { never_falls = omega (arith, le, grows); failed = rose_later k m n le rose };
+    }
+
+-- one part more, when what is before it was handed on
+pub queued_then : {T E U F : Type 0} (a b c : Option (List ℕ)) (k m n : ℕ) (waiting middle left : List ℕ) (x : T) (result : Result U F) (bytes more : List ℕ) → IsQueued {T = T} {E = E} a b k m waiting middle (Ok x) bytes → IsQueued b c m n middle left result more → IsQueued a c k n waiting left result (bytes ++ more)
+queued_then a b c k m n waiting middle left x (Ok u) bytes more first last = record {
+  all = queue_more a b c waiting middle left bytes more first.all last.all;
+  front = tt;
+  cause = record { never_falls = omega (arith, first.cause.never_falls, last.cause.never_falls); failed = tt };
+}
+queued_then a b c k m n waiting middle left x (Err e) bytes more first last = record {
   all = tt;
-  front = sent_front a b c (bytes ++ more) more more [] (bytes, refl, sent.all) (sym (append-nil more)) last.front;
-  cause = record { never_falls = omega (arith, sent.cause.never_falls, last.cause.never_falls); failed = rose_later k m n sent.cause.never_falls last.cause.failed };
+  front = queue_front a b c waiting middle bytes more first.all last.front;
+  cause = record { never_falls = omega (arith, first.cause.never_falls, last.cause.never_falls); failed = rose_later k m n first.cause.never_falls last.cause.failed };
 }
 
--- no part is sent after one that failed
-pub sent_stop : {T E U F : Type 0} (a b : Option (List ℕ)) (k m : ℕ) (e : E) (result : Result U F) (bytes more : List ℕ) → IsErr result → IsSent {T = T} {E = E} a b k m (Err e) bytes → IsSent a b k m result (bytes ++ more)
-sent_stop a b k m e result bytes more is sent = sent_cut_first a b k m result (bytes ++ more) bytes more is refl sent.front sent.cause.never_falls sent.cause.failed
+-- no part is handed on after one that failed
+pub queued_stop : {T E U F : Type 0} (a b : Option (List ℕ)) (k m : ℕ) (waiting left : List ℕ) (e : E) (result : Result U F) (bytes more : List ℕ) → IsErr result → IsQueued {T = T} {E = E} a b k m waiting left (Err e) bytes → IsQueued a b k m waiting left result (bytes ++ more)
+queued_stop a b k m waiting left e (Ok u) bytes more is first = absurd cc
+queued_stop a b k m waiting left e (Err f) bytes more is first = record {
+  all = tt;
+  front = front_longer a b waiting bytes more first.front;
+  cause = record { never_falls = first.cause.never_falls; failed = first.cause.failed };
+}
 
-pub sent_less : {T E : Type 0} (a b : Option (List ℕ)) (k m : ℕ) (result : Result T E) (bytes more : List ℕ) → IsErr result → IsSent a b k m result bytes → IsSent a b k m result (bytes ++ more)
-sent_less a b k m (Ok u) bytes more is sent = absurd cc
-sent_less a b k m (Err e) bytes more is sent = sent_stop a b k m e (Err e) bytes more is sent
+pub queued_less : {T E : Type 0} (a b : Option (List ℕ)) (k m : ℕ) (waiting left : List ℕ) (result : Result T E) (bytes more : List ℕ) → IsErr result → IsQueued a b k m waiting left result bytes → IsQueued a b k m waiting left result (bytes ++ more)
+queued_less a b k m waiting left (Ok u) bytes more is first = absurd cc
+queued_less a b k m waiting left (Err f) bytes more is first = queued_stop a b k m waiting left f (Err f) bytes more is first
 
--- ---- five parts, the first so many of which were sent
+-- ---- five parts, the first so many of which were handed on
 
-pub stop_first : {T E U F : Type 0} (a b : Option (List ℕ)) (k m : ℕ) (e : E) (result : Result U F) (p q r s t : List ℕ) → IsErr result → IsSent {T = T} {E = E} a b k m (Err e) p → IsSent a b k m result (p ++ q ++ r ++ s ++ t)
-stop_first a b k m e result p q r s t is sent = sent_less a b k m result (p ++ q ++ r ++ s) t is (sent_less a b k m result (p ++ q ++ r) s is (sent_less a b k m result (p ++ q) r is (sent_stop a b k m e result p q is sent)))
+pub stop_first : {T E U F : Type 0} (a b : Option (List ℕ)) (k m : ℕ) (waiting left : List ℕ) (e : E) (result : Result U F) (p q r s t : List ℕ) → IsErr result → IsQueued {T = T} {E = E} a b k m waiting left (Err e) p → IsQueued a b k m waiting left result (p ++ q ++ r ++ s ++ t)
+stop_first a b k m waiting left e result p q r s t is first = queued_less a b k m waiting left result (p ++ q ++ r ++ s) t is (queued_less a b k m waiting left result (p ++ q ++ r) s is (queued_less a b k m waiting left result (p ++ q) r is (queued_stop a b k m waiting left e result p q is first)))
 
-pub stop_second : {T E U F : Type 0} (a b : Option (List ℕ)) (k m : ℕ) (e : E) (result : Result U F) (p q r s t : List ℕ) → IsErr result → IsSent {T = T} {E = E} a b k m (Err e) (p ++ q) → IsSent a b k m result (p ++ q ++ r ++ s ++ t)
-stop_second a b k m e result p q r s t is sent = sent_less a b k m result (p ++ q ++ r ++ s) t is (sent_less a b k m result (p ++ q ++ r) s is (sent_stop a b k m e result (p ++ q) r is sent))
+pub stop_second : {T E U F : Type 0} (a b : Option (List ℕ)) (k m : ℕ) (waiting left : List ℕ) (e : E) (result : Result U F) (p q r s t : List ℕ) → IsErr result → IsQueued {T = T} {E = E} a b k m waiting left (Err e) (p ++ q) → IsQueued a b k m waiting left result (p ++ q ++ r ++ s ++ t)
+stop_second a b k m waiting left e result p q r s t is first = queued_less a b k m waiting left result (p ++ q ++ r ++ s) t is (queued_less a b k m waiting left result (p ++ q ++ r) s is (queued_stop a b k m waiting left e result (p ++ q) r is first))
 
-pub stop_third : {T E U F : Type 0} (a b : Option (List ℕ)) (k m : ℕ) (e : E) (result : Result U F) (p q r s t : List ℕ) → IsErr result → IsSent {T = T} {E = E} a b k m (Err e) (p ++ q ++ r) → IsSent a b k m result (p ++ q ++ r ++ s ++ t)
-stop_third a b k m e result p q r s t is sent = sent_less a b k m result (p ++ q ++ r ++ s) t is (sent_stop a b k m e result (p ++ q ++ r) s is sent)
+pub stop_third : {T E U F : Type 0} (a b : Option (List ℕ)) (k m : ℕ) (waiting left : List ℕ) (e : E) (result : Result U F) (p q r s t : List ℕ) → IsErr result → IsQueued {T = T} {E = E} a b k m waiting left (Err e) (p ++ q ++ r) → IsQueued a b k m waiting left result (p ++ q ++ r ++ s ++ t)
+stop_third a b k m waiting left e result p q r s t is first = queued_less a b k m waiting left result (p ++ q ++ r ++ s) t is (queued_stop a b k m waiting left e result (p ++ q ++ r) s is first)

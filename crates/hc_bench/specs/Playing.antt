@@ -1,7 +1,7 @@
 -- What a simulator did and a sink took, as the steps of a bench were played.
 use Rattle.std.specs.Prelude.{◌≡◌, ℕ, List, ◌++◌, Option}
 use Rattle.std.specs.Io.KnownBytes.{Appends}
-use Rattle.hc_outside.specs.Moves.{AppendsFront}
+use Rattle.hc_outside.specs.Moves.{AppendsFront, AppendsUpTo}
 use Rattle.hc_signal.specs.declared.signal.Port.{Port}
 use Rattle.hc_bench.specs.declared.kinds.Step.{Step}
 use Rattle.hc_bench.specs.Listing.{CycleRow, listing}
@@ -32,9 +32,17 @@ pub record IsPartListed (outputs : List Port) (sim : Simulation) (count : ℕ) (
 abbrev pub LeadsTo : Simulation → ℕ → List Step → Simulation → ℕ → List CycleRow → Type 0
 LeadsTo from count steps to next rows = (more : List Step) (others : List CycleRow) → Trace from.tree to.state to.inputs next more others → Trace from.tree from.state from.inputs count (steps ++ more) (rows ++ others)
 
--- The steps were played, and the listing of their rows was taken.
-pub record Plays (outputs : List Port) (from : Simulation) (count : ℕ) (steps : List Step) (to : Simulation) (next : ℕ) (old new : Option (List ℕ)) : Type 0 where
+-- The steps were played. Of the bytes that waited and the listing of their rows, all were taken but those that are left waiting.
+pub record Plays (outputs : List Port) (from : Simulation) (count : ℕ) (steps : List Step) (to : Simulation) (next : ℕ) (old new : Option (List ℕ)) (waiting left : List ℕ) : Type 0 where
   pub rows : List CycleRow
   pub leads : LeadsTo from count steps to next rows
   pub tree : to.tree ≡ from.tree
-  pub taken : Appends old new (listing outputs rows)
+  pub taken : AppendsUpTo old new (waiting ++ listing outputs rows) left
+
+-- A beginning of the steps was played, and a front of the bytes that waited and the listing of its rows was taken.
+pub record PlaysPart (outputs : List Port) (sim : Simulation) (count : ℕ) (steps : List Step) (old new : Option (List ℕ)) (waiting : List ℕ) : Type 0 where
+  pub front : List Step
+  pub begins : Begins front steps
+  pub rows : List CycleRow
+  pub trace : Trace sim.tree sim.state sim.inputs count front rows
+  pub taken : AppendsFront old new (waiting ++ listing outputs rows)

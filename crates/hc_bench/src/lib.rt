@@ -2,6 +2,7 @@
 //! runs.
 #![tactic(auto)]
 
+mod buffer;
 pub mod kinds;
 mod lines;
 mod listing;

@@ -2,9 +2,10 @@
 ghost use Rattle.std.specs.Prelude.{◌≡◌, ◌≤◌, ◌<◌, ◌+◌, ◌/◌, ◌++◌, ◌∷◌, [], length, drop, codes, decimal};
 ghost use Rattle.hc_bits.specs.Digits.{digit, hex, hex_of};
 ghost use Rattle.hc_bench.specs.Listing.{CycleRow, value_text, values_text, row_text};
-ghost use Rattle.hc_bench.specs.Sent.{IsSent};
+ghost use Rattle.hc_bench.specs.Queued.{IsQueued};
 ghost use Rattle.hc_signal.specs.Tree.{graph};
 
+use crate::buffer::WriteBuffer;
 use crate::sends::{write, write_pieces};
 use crate::sim::Sim;
 use hc_bits::Bits;
@@ -36,47 +37,63 @@ fn put_hex(digits: &mut [u8], count: usize, value: u128)
 }
 
 /// Writes an output and its value.
-pub(crate) fn write_value<K: Sink>(to: &mut K, port: &Port, value: Bits) -> Result<(), Failed>
+fn write_value<K: Sink>(
+    to: &mut K,
+    waiting: &mut WriteBuffer,
+    port: &Port,
+    value: Bits,
+) -> Result<(), Failed>
     requires { value.width ≡ port.now.width }
-    ensures { IsSent (K.taken to.old) (K.taken to.new) (K.faults to.old) (K.faults to.new) result (value_text (port.now, value.value)) }
+    ensures { IsQueued (K.taken to.old) (K.taken to.new) (K.faults to.old) (K.faults to.new) waiting.old waiting.new result (value_text (port.now, value.value)) }
 {
     let mut digits = [0u8; 32];
     let count = value.width().div_ceil(4) as usize;
     put_hex(&mut digits, count, value.value());
     write_pieces(
         to,
+        waiting,
         &[b" ", port.name.bytes(), b"=", digits.split_at(count).0],
     )
 }
 
 /// Writes a number in decimal digits.
-fn write_number<K: Sink>(to: &mut K, number: u32) -> Result<(), Failed>
-    ensures { IsSent (K.taken to.old) (K.taken to.new) (K.faults to.old) (K.faults to.new) result (decimal number) }
+fn write_number<K: Sink>(to: &mut K, waiting: &mut WriteBuffer, number: u32) -> Result<(), Failed>
+    ensures { IsQueued (K.taken to.old) (K.taken to.new) (K.faults to.old) (K.faults to.new) waiting.old waiting.new result (decimal number) }
 {
     let mut digits = Buffer::new();
-    write(to, digits.format(number).as_bytes())
+    write(to, waiting, digits.format(number).as_bytes())
 }
 
 /// Writes the outputs before the last clock edge.
-fn write_before<S: Sim, K: Sink>(to: &mut K, sim: &S, outputs: &[Port]) -> Result<(), Failed>
+fn write_before<S: Sim, K: Sink>(
+    to: &mut K,
+    waiting: &mut WriteBuffer,
+    sim: &S,
+    outputs: &[Port],
+) -> Result<(), Failed>
     requires { (graph (S.runs sim.now).tree).ports.outputs ≡ outputs.now }
-    ensures { IsSent (K.taken to.old) (K.taken to.new) (K.faults to.old) (K.faults to.new) result (values_text outputs.now (S.runs sim.now).before) }
+    ensures { IsQueued (K.taken to.old) (K.taken to.new) (K.faults to.old) (K.faults to.new) waiting.old waiting.new result (values_text outputs.now (S.runs sim.now).before) }
 {
     sim.lawful();
     'outputs: for (place, port) in outputs.iter().enumerate() {
-        write_value(to, port, sim.before(place as u32))?;
+        write_value(to, waiting, port, sim.before(place as u32))?;
     }
     Ok(())
 }
 
 /// Writes the outputs after the last clock edge.
-fn write_after<S: Sim, K: Sink>(to: &mut K, sim: &S, outputs: &[Port]) -> Result<(), Failed>
+fn write_after<S: Sim, K: Sink>(
+    to: &mut K,
+    waiting: &mut WriteBuffer,
+    sim: &S,
+    outputs: &[Port],
+) -> Result<(), Failed>
     requires { (graph (S.runs sim.now).tree).ports.outputs ≡ outputs.now }
-    ensures { IsSent (K.taken to.old) (K.taken to.new) (K.faults to.old) (K.faults to.new) result (values_text outputs.now (S.runs sim.now).after) }
+    ensures { IsQueued (K.taken to.old) (K.taken to.new) (K.faults to.old) (K.faults to.new) waiting.old waiting.new result (values_text outputs.now (S.runs sim.now).after) }
 {
     sim.lawful();
     'outputs: for (place, port) in outputs.iter().enumerate() {
-        write_value(to, port, sim.after(place as u32))?;
+        write_value(to, waiting, port, sim.after(place as u32))?;
     }
     Ok(())
 }
@@ -84,6 +101,7 @@ fn write_after<S: Sim, K: Sink>(to: &mut K, sim: &S, outputs: &[Port]) -> Result
 /// Writes the line of the last cycle, which has this number.
 pub(crate) fn write_row<S: Sim, K: Sink>(
     to: &mut K,
+    waiting: &mut WriteBuffer,
     sim: &S,
     outputs: &[Port],
     cycle: u32,
@@ -93,11 +111,11 @@ pub(crate) fn write_row<S: Sim, K: Sink>(
       cycle = cycle;
       before = (S.runs sim.now).before;
       after = (S.runs sim.now).after;
-    } in IsSent (K.taken to.old) (K.taken to.new) (K.faults to.old) (K.faults to.new) result (row_text outputs.now row ++ 10 ∷ []) }
+    } in IsQueued (K.taken to.old) (K.taken to.new) (K.faults to.old) (K.faults to.new) waiting.old waiting.new result (row_text outputs.now row ++ 10 ∷ []) }
 {
-    write_number(to, cycle)?;
-    write_before(to, sim, outputs)?;
-    write(to, b" |")?;
-    write_after(to, sim, outputs)?;
-    write(to, b"\n")
+    write_number(to, waiting, cycle)?;
+    write_before(to, waiting, sim, outputs)?;
+    write(to, waiting, b" |")?;
+    write_after(to, waiting, sim, outputs)?;
+    write(to, waiting, b"\n")
 }

@@ -1,10 +1,10 @@
 use Rattle.std.proofs.Common.{◌≤◌, drop}
-use Rattle.hc_outside.specs.Moves.{AppendsUpTo}
 use Rattle.hc_bench.specs.Listing.{values_text}
+use Rattle.hc_bench.proofs.Pieces.{QueuesUpTo}
 use Rattle.hc_bench.proofs.listing.write_before.Given as goal
 
 abbrev pub invariant-outputs : goal.invariant-outputs
 invariant-outputs g l = record {
-  so_far : AppendsUpTo (g.K.Sink.taken l.initial.to) (g.K.Sink.taken l.to) (values_text l.outputs (g.S.Sim.runs l.sim).before) (values_text (drop l.place l.outputs) (drop l.place (g.S.Sim.runs l.sim).before));
+  so_far : QueuesUpTo (g.K.Sink.taken l.initial.to) (g.K.Sink.taken l.to) l.initial.waiting l.waiting (values_text l.outputs (g.S.Sim.runs l.sim).before) (values_text (drop l.place l.outputs) (drop l.place (g.S.Sim.runs l.sim).before));
   never_falls : g.K.Sink.faults l.initial.to ≤ g.K.Sink.faults l.to;
 }

@@ -11,8 +11,8 @@ returns-in-Set-clause-all g c =
     let from = g.S.Sim.runs c.args.sim.now in
     let to = g.S.Sim.runs c.set.new.self in
     let taken = g.K.Sink.taken c.args.to.now in
-    subst (λ (s : Step). Plays c.args.outputs.now from c.args.count (s ∷ []) to (c.args.count + cycles_of s) taken taken) (sym c.in-Set.is)
-    (plays_set c.args.outputs.now from to c.args.count c.in-Set.port c.in-Set.value taken
+    subst (λ (s : Step). Plays c.args.outputs.now from c.args.count (s ∷ []) to (c.args.count + cycles_of s) taken taken c.args.waiting.now c.args.waiting.now) (sym c.in-Set.is)
+    (plays_set c.args.outputs.now from to c.args.count c.in-Set.port c.in-Set.value taken c.args.waiting.now
     (input_within (graph from.tree).ports.inputs from.inputs c.args.step c.in-Set.port c.in-Set.value c.in-Set.is c.requires.fits c.lawful.ensures.inputs) c.set.ensures)
 
 pub returns-in-Reset-clause-all : goal.returns-in-Reset-clause-all
@@ -20,5 +20,5 @@ returns-in-Reset-clause-all g c =
     let from = g.S.Sim.runs c.args.sim.now in
     let to = g.S.Sim.runs c.reset.new.self in
     let taken = g.K.Sink.taken c.args.to.now in
-    subst (λ (s : Step). Plays c.args.outputs.now from c.args.count (s ∷ []) to (c.args.count + cycles_of s) taken taken) (sym c.in-Reset.is)
-    (plays_reset c.args.outputs.now from to c.args.count taken c.reset.ensures)
+    subst (λ (s : Step). Plays c.args.outputs.now from c.args.count (s ∷ []) to (c.args.count + cycles_of s) taken taken c.args.waiting.now c.args.waiting.now) (sym c.in-Reset.is)
+    (plays_reset c.args.outputs.now from to c.args.count taken c.args.waiting.now c.reset.ensures)

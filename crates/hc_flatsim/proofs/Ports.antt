@@ -2,7 +2,7 @@
 use Rattle.std.proofs.Common.{◌≡◌, ℕ, zero, suc, ◌<◌, List, [], ◌∷◌, map, length, get_or, refl, sym, subst, ◌∙◌, ap, ap₂, arith}
 use Rattle.std.specs.Prelude.{slice_get, slice_set, slice_index, Option, Some, None, option_map}
 use Rattle.std.proofs.lemmas.List.{length-map}
-use Rattle.std.proofs.lemmas.Option.{slice_get-map, get_or_from_slice_get}
+use Rattle.std.proofs.lemmas.Option.{slice_get-map, slice_get_within, get_or_from_slice_get}
 use Rattle.hc_bits.specs.BitVector.{BitVector}
 use Rattle.hc_signal.specs.declared.signal.NodeId.{NodeId}
 use Rattle.hc_signal.specs.declared.signal.Port.{Port}
@@ -47,6 +47,11 @@ set_widths xs ports n x e v =
     let y : (y : BitVector) × (slice_get xs n ≡ Some y) × (y.width ≡ v.0.width) = found (λ (b : BitVector). b.width) (λ (q : Port). q.width) xs ports n v.0 e v.1 in
     same_set (λ (b : BitVector). b.width) xs n x y.0 y.1 (v.2.1 ∙ sym y.2) ∙ e
 
+pub input_within : (xs : List BitVector) (ports : List Port) (n : ℕ) (x : BitVector) → widths xs ≡ port_widths ports → IsPortValue ports n x → n < length xs
+input_within xs ports n x e v =
+    let y : (y : BitVector) × (slice_get xs n ≡ Some y) × (y.width ≡ v.0.width) = found (λ (b : BitVector). b.width) (λ (q : Port). q.width) xs ports n v.0 e v.1 in
+    slice_get_within xs n y.0 y.1
+
 numbers_set : (xs : List BitVector) (n : ℕ) (x : BitVector) → numbers (slice_set xs n x) ≡ slice_set (numbers xs) n x.value
 numbers_set [] n x = refl
 numbers_set (y ∷ xs) zero x = refl
@@ -55,5 +60,5 @@ numbers_set (y ∷ xs) (suc n) x = ap (λ (l : List ℕ). y.value ∷ l) (number
 pub set_is : (m new : Machine) (n : ℕ) (x : BitVector) → new ≡ record m { inputs = slice_set m.inputs n x } → simulation_of new ≡ record (simulation_of m) { inputs = slice_set (simulation_of m).inputs n x.value }
 set_is m new n x e = ap simulation_of e ∙ ap (λ (l : List ℕ). let s : Simulation = record (simulation_of m) { inputs = l } in s) (numbers_set m.inputs n x)
 
-pub reset_is : (m new : Machine) → IsMachine m → new ≡ record m { registers = initial_registers m.graph m.order m.registers } → simulation_of new ≡ record (simulation_of m) { state = reset (simulation_of m).tree (simulation_of m).state }
+pub reset_is : (m new : Machine) → IsMachine m → new ≡ record m { registers = initial_registers m.graph m.clocked m.registers } → simulation_of new ≡ record (simulation_of m) { state = reset (simulation_of m).tree (simulation_of m).state }
 reset_is m new is e = ap simulation_of e ∙ sym (ap (λ s. let t : Simulation = record (simulation_of m) { state = s } in t) (reset_state m is))

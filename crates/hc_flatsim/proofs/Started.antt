@@ -31,8 +31,8 @@ use Rattle.hc_flatsim.specs.Edges.{places, initial_of, initial_of_row, initial_r
 use Rattle.hc_flatsim.specs.Starting.{memories_among, zero_of, zeros_of_memory}
 use Rattle.hc_flatsim.proofs.Changes.{updated_here}
 use Rattle.hc_flatsim.proofs.Shapes.{found}
-use Rattle.hc_flatsim.proofs.Held.{keys_differ, one_node, has_among, order_differ, reg_row, is_state}
-use Rattle.hc_flatsim.proofs.Stepped.{pairs_agree, init_node, init_row}
+use Rattle.hc_flatsim.proofs.Held.{reg_row, is_state}
+use Rattle.hc_flatsim.proofs.Stepped.{pairs_agree, places_differ, init_node, init_row}
 
 -- ---- the memories that a walk met
 
@@ -95,7 +95,7 @@ port_zeros (p ∷ ports) = ap (λ (l : List ℕ). 0 ∷ l) (port_zeros ports)
 -- ---- the initial state
 
 module _ (m : Machine) (is : IsMachine m) (start : List BitVector) (start_widths : widths start ≡ node_widths m.graph.nodes)
-    (registers_are : m.registers ≡ initial_registers m.graph m.order start) (memories_are : m.memories ≡ map zeros_of_memory m.graph.memories)
+    (registers_are : m.registers ≡ initial_registers m.graph m.clocked start) (memories_are : m.memories ≡ map zeros_of_memory m.graph.memories)
     (inputs_are : m.inputs ≡ map (λ (p : Port). zero_of p.width) m.graph.ports.inputs) (before_are : m.before ≡ map (λ (p : Port). zero_of p.width) m.graph.ports.outputs)
     (after_are : m.after ≡ map (λ (p : Port). zero_of p.width) m.graph.ports.outputs) where
   abbrev pair : NodeId → Occurrence × ℕ
@@ -110,7 +110,7 @@ module _ (m : Machine) (is : IsMachine m) (start : List BitVector) (start_widths
       let x : (x : BitVector) × (slice_get start id.0 ≡ Some x) × (x.width ≡ r.0.width) = found (λ (b : BitVector). b.width) (λ (row : NodeRow). row.width) start m.graph.nodes id.0 r.0 start_widths r.1 in
       let new : slice_get m.registers id.0 ≡ Some (initial_register_at m.graph id.0 x.0) =
       ap (λ (l : List BitVector). slice_get l id.0) registers_are
-      ∙ updated_here (initial_register_at m.graph) (places m.order) id.0 start x.0 (keys_differ (λ (i : NodeId). i.0) one_node m.order (order_differ m is)) (has_map (λ (i : NodeId). i.0) (has_among m.graph m.order id c).0) x.1 in
+      ∙ updated_here (initial_register_at m.graph) (places m.clocked) id.0 start x.0 (places_differ m is) (has_map (λ (i : NodeId). i.0) (subst (λ (l : List NodeId). Has l id) (sym is.clocked) c)) x.1 in
       ap (λ (o : Option NodeRow). (at_node id.0, init_row o)) r.1 ∙ ap (λ (z : NodeOf). (at_node id.0, init_node z)) r.2.4
       ∙ sym (ap (λ o. (at_node id.0, number_of o)) new ∙ ap (λ (o : Option NodeRow). (at_node id.0, (initial_of_row o x.0).value)) r.1 ∙ ap (λ (z : NodeOf). (at_node id.0, (initial_of z x.0).value)) r.2.4)
 

@@ -31,7 +31,7 @@ abbrev pub next_register_at : Graph → List BitVector → ℕ → BitVector →
 next_register_at g values n old = next_of_row values (slice_get g.nodes n) old
 
 abbrev pub next_registers : Graph → List BitVector → List NodeId → List BitVector → List BitVector
-next_registers g values order registers = updated (next_register_at g values) (places order) registers
+next_registers g values ids registers = updated (next_register_at g values) (places ids) registers
 
 abbrev pub initial_of : Node → BitVector → BitVector
 initial_of (Reg next enable clear init) old = init
@@ -46,7 +46,7 @@ abbrev pub initial_register_at : Graph → ℕ → BitVector → BitVector
 initial_register_at g n old = initial_of_row (slice_get g.nodes n) old
 
 abbrev pub initial_registers : Graph → List NodeId → List BitVector → List BitVector
-initial_registers g order registers = updated (initial_register_at g) (places order) registers
+initial_registers g ids registers = updated (initial_register_at g) (places ids) registers
 
 -- ---- memories
 

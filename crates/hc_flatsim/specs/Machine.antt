@@ -19,11 +19,12 @@ use Rattle.hc_paths.specs.Schedule.{IsSchedule}
 use Rattle.hc_bench.specs.Simulation.{State}
 use Rattle.hc_bench.specs.Trace.{Simulation}
 
--- A circuit, an order of its reached nodes, its reached memories, a value and a register value for each node, the words
--- of each memory, the inputs, and the outputs before and after the last clock edge.
+-- A circuit, an order of its reached nodes, the registers among them, its reached memories, a value and a register value
+-- for each node, the words of each memory, the inputs, and the outputs before and after the last clock edge.
 pub record Machine : Type 0 where
   pub graph : Graph
   pub order : List NodeId
+  pub clocked : List NodeId
   pub used : List MemId
   pub values : List BitVector
   pub registers : List BitVector
@@ -120,6 +121,7 @@ pub record IsMachine (m : Machine) : Type 0 where
   pub lawful : IsLawful m.graph
   pub flat : IsFlatCircuit m.graph
   pub schedule : IsSchedule m.graph m.order
+  pub clocked : m.clocked ≡ registers_among m.graph m.order
   pub used : (id : MemId) → Has m.used id ↔ Reached m.graph (mem id.0)
   pub used_once : AllDifferent m.used
   pub values : widths m.values ≡ node_widths m.graph.nodes

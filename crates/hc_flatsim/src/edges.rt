@@ -91,13 +91,18 @@ fn step_register(circuit: &Circuit, values: &[Bits], registers: &mut [Bits], id:
 }
 
 /// Steps the registers of these nodes.
-pub fn step_registers(circuit: &Circuit, order: &[NodeId], values: &[Bits], registers: &mut [Bits])
+pub fn step_registers(
+    circuit: &Circuit,
+    clocked: &[NodeId],
+    values: &[Bits],
+    registers: &mut [Bits],
+)
     requires values { widths values.now ≡ node_widths circuit.now.nodes }
     requires registers { widths registers.old ≡ node_widths circuit.now.nodes }
-    ensures value { registers.new ≡ next_registers circuit.now values.now order.now registers.old }
+    ensures value { registers.new ≡ next_registers circuit.now values.now clocked.now registers.old }
     ensures widths { widths registers.new ≡ node_widths circuit.now.nodes }
 {
-    'order: for id in order {
+    'clocked: for id in clocked {
         step_register(circuit, values, registers, *id);
     }
 }
@@ -126,12 +131,12 @@ fn reset_register(circuit: &Circuit, registers: &mut [Bits], id: NodeId)
 }
 
 /// Puts the registers of these nodes to their initial values.
-pub fn reset_registers(circuit: &Circuit, order: &[NodeId], registers: &mut [Bits])
+pub fn reset_registers(circuit: &Circuit, clocked: &[NodeId], registers: &mut [Bits])
     requires registers { widths registers.old ≡ node_widths circuit.now.nodes }
-    ensures value { registers.new ≡ initial_registers circuit.now order.now registers.old }
+    ensures value { registers.new ≡ initial_registers circuit.now clocked.now registers.old }
     ensures widths { widths registers.new ≡ node_widths circuit.now.nodes }
 {
-    'order: for id in order {
+    'clocked: for id in clocked {
         reset_register(circuit, registers, *id);
     }
 }

@@ -11,8 +11,10 @@ ghost use Rattle.hc_flatsim.specs.Machine.{simulation_of, HasNoOps, IsMachine};
 ghost use Rattle.hc_flatsim.specs.Settling.{given_of, operand, settled};
 
 use crate::edges::{reset_registers, step_memories, step_registers};
+use crate::inputs::set_input;
 use crate::make::{
-    initial_registers, used_memories, zeros_of_memories, zeros_of_nodes, zeros_of_ports,
+    initial_registers, registers_among, used_memories, zeros_of_memories, zeros_of_nodes,
+    zeros_of_ports,
 };
 use crate::settle::{note, settle};
 use crate::words::Words;
@@ -30,6 +32,8 @@ pub struct FlatSim<'a> {
     circuit: &'a Circuit,
     // the nodes that the outputs reach, each after those that it is computed from
     order: Vec<NodeId>,
+    // the registers among them
+    clocked: Vec<NodeId>,
     // the memories that the outputs reach
     used: Vec<MemId>,
     values: Vec<Bits>,
@@ -46,9 +50,9 @@ impl<'a> Model for FlatSim<'a> {
 
     ghost Value = { Machine };
 
-    ghost view = { λ s. record { graph = s.circuit.now; order = s.order.items; used = s.used.items; values = s.values.items; registers = s.registers.items; memories = s.memories.items; inputs = s.inputs.items; before = s.before.items; after = s.after.items } };
+    ghost view = { λ s. record { graph = s.circuit.now; order = s.order.items; clocked = s.clocked.items; used = s.used.items; values = s.values.items; registers = s.registers.items; memories = s.memories.items; inputs = s.inputs.items; before = s.before.items; after = s.after.items } };
 
-    ghost invariant = { λ s. IsMachine (record { graph = s.circuit.now; order = s.order.items; used = s.used.items; values = s.values.items; registers = s.registers.items; memories = s.memories.items; inputs = s.inputs.items; before = s.before.items; after = s.after.items }) };
+    ghost invariant = { λ s. IsMachine (record { graph = s.circuit.now; order = s.order.items; clocked = s.clocked.items; used = s.used.items; values = s.values.items; registers = s.registers.items; memories = s.memories.items; inputs = s.inputs.items; before = s.before.items; after = s.after.items }) };
 }
 
 impl<'a> FlatSim<'a> {
@@ -66,9 +70,10 @@ impl<'a> FlatSim<'a> {
             Ok(order) => order,
             Err(_) => return Err(NoMemory),
         };
+        let clocked = registers_among(alloc, circuit, order.as_slice())?;
         let used = used_memories(alloc, circuit)?;
         let values = zeros_of_nodes(alloc, circuit)?;
-        let registers = initial_registers(alloc, circuit, order.as_slice())?;
+        let registers = initial_registers(alloc, circuit, clocked.as_slice())?;
         let memories = zeros_of_memories(alloc, circuit)?;
         let ports = circuit.ports();
         let inputs = zeros_of_ports(alloc, ports.inputs.as_slice())?;
@@ -77,6 +82,7 @@ impl<'a> FlatSim<'a> {
         Ok(FlatSim {
             circuit,
             order,
+            clocked,
             used,
             values,
             registers,
@@ -125,11 +131,11 @@ impl<'a> FlatSim<'a> {
 
     /// The clock edge: registers and memories take what the values give.
     fn edge(&mut self)
-        ensures { self.new ≡ record self.old { registers = next_registers self.old.graph self.old.values self.old.order self.old.registers; memories = next_memories self.old.graph self.old.values self.old.used self.old.memories } }
+        ensures { self.new ≡ record self.old { registers = next_registers self.old.graph self.old.values self.old.clocked self.old.registers; memories = next_memories self.old.graph self.old.values self.old.used self.old.memories } }
     {
         step_registers(
             self.circuit,
-            self.order.as_slice(),
+            self.clocked.as_slice(),
             self.values.as_slice(),
             self.registers.as_mut_slice(),
         );
@@ -153,16 +159,16 @@ impl<'a> FlatSim<'a> {
         requires { IsPortValue self.old.graph.ports.inputs port value }
         ensures { self.new ≡ record self.old { inputs = slice_set self.old.inputs port value } }
     {
-        self.inputs[port as usize] = value;
+        set_input(self.circuit, self.inputs.as_mut_slice(), port, value);
     }
 
     /// Puts each register to its initial value.
     fn restart(&mut self)
-        ensures { self.new ≡ record self.old { registers = initial_registers self.old.graph self.old.order self.old.registers } }
+        ensures { self.new ≡ record self.old { registers = initial_registers self.old.graph self.old.clocked self.old.registers } }
     {
         reset_registers(
             self.circuit,
-            self.order.as_slice(),
+            self.clocked.as_slice(),
             self.registers.as_mut_slice(),
         );
     }

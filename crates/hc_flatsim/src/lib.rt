@@ -4,6 +4,7 @@
 mod compute;
 mod edges;
 mod flat;
+mod inputs;
 mod make;
 mod operands;
 mod ops;

@@ -17,8 +17,8 @@ use Rattle.hc_signal.specs.Occurrences.{Occurrence, IsReachedOccurrence, IsReach
 use Rattle.hc_paths.proofs.Composed.{reached_fanin}
 use Rattle.hc_bench.specs.Simulation.{value, IsSettled, outputs_of}
 use Rattle.hc_bench.specs.Trace.{IsSimulation}
-use Rattle.hc_flatsim.specs.Machine.{Machine, IsMachine, is_register, is_register_row, state_of, simulation_of, number_at, numbers, words_at, node_widths, port_widths}
-use Rattle.hc_flatsim.specs.Settling.{Given, given_of, own_value, operand, settled, valuation}
+use Rattle.hc_flatsim.specs.Machine.{Machine, IsMachine, is_register, is_register_row, state_of, simulation_of, number_at, numbers, words_at, node_widths, port_widths, valuation}
+use Rattle.hc_flatsim.specs.Settling.{Given, given_of, own_value, operand, settled}
 use Rattle.hc_flatsim.proofs.Settled.{computed}
 use Rattle.hc_flatsim.proofs.Shapes.{many}
 use Rattle.hc_flatsim.proofs.Held.{held, no_path, among_has, is_state}

@@ -1,4 +1,4 @@
--- The state after a clock edge, a reset and a whole cycle.
+-- The state after a clock edge and a reset.
 use Rattle.std.proofs.Common.{◌≡◌, ℕ, zero, suc, ◌<◌, List, [], ◌∷◌, map, length, refl, sym, subst, ◌∙◌, ap, ap₂, arith}
 use Rattle.std.specs.Prelude.{slice_get, Option, Some, None}
 use Rattle.std.specs.List.{enumerate_from}
@@ -17,16 +17,14 @@ use Rattle.hc_walk.proofs.Members.{has_map}
 use Rattle.hc_walk.proofs.InRange.{HasRow, reached_row}
 use Rattle.hc_paths.specs.Digraph.{AllDifferent}
 use Rattle.hc_bench.specs.Simulation.{State, next_value, next_register, next_memory, word_after, clock_edge, initial_register, reset}
-use Rattle.hc_bench.specs.Trace.{RunsCycle}
 use Rattle.hc_flatsim.specs.Updates.{updated}
-use Rattle.hc_flatsim.specs.Machine.{Machine, IsMachine, at_node, registers_among, state_of, simulation_of, number_of, number_at, numbers, words_at, words_of, widths, node_widths, memory_widths}
-use Rattle.hc_flatsim.specs.Settling.{operand, settled, given_of, valuation}
+use Rattle.hc_flatsim.specs.Machine.{Machine, IsMachine, at_node, registers_among, state_of, simulation_of, number_of, number_at, numbers, words_at, words_of, widths, node_widths, memory_widths, valuation}
+use Rattle.hc_flatsim.specs.Settling.{operand}
 use Rattle.hc_flatsim.specs.Edges.{places, memory_places, next_of_row, next_register_at, next_registers, next_of_memory, next_words_at, next_memories, initial_of, initial_of_row, initial_register_at, initial_registers}
 use Rattle.hc_flatsim.proofs.Changes.{updated_here}
 use Rattle.hc_flatsim.proofs.Shapes.{found}
 use Rattle.hc_flatsim.proofs.Held.{keys_differ, one_node, one_memory, among_differ, order_differ, reg_row, words_found}
 use Rattle.hc_flatsim.proofs.Written.{words_written}
-use Rattle.hc_flatsim.proofs.Cycles.{outputs_are, settles}
 
 pub pairs_agree : {K X : Type 0} (h : Occurrence × X → Occurrence × X) (old new : K → Occurrence × X) (ids : List K) → ((id : K) → Has ids id → h (old id) ≡ new id) → map h (map old ids) ≡ map new ids
 pairs_agree h old new [] a = refl
@@ -110,40 +108,3 @@ module _ (m : Machine) (is : IsMachine m) where
       ap₂ (λ k l. record { registers = k; memories = l })
       (changed (next_register_at m.graph m.values) (next_register (leaf m.graph) (valuation m.values)) next_one)
       (pairs_agree (next_memory (leaf m.graph) (valuation m.values)) (words_pair m.memories) (words_pair (next_memories m.graph m.values m.used m.memories)) m.used memory_next)
-
--- ---- a whole cycle
-
-abbrev pub settle_of : Machine → Machine
-settle_of m = record m { values = settled m.graph (given_of m) m.order m.values }
-
-abbrev pub note_before_of : Machine → Machine
-note_before_of m = record m { before = map (operand m.graph m.values) m.graph.outputs }
-
-abbrev pub note_after_of : Machine → Machine
-note_after_of m = record m { after = map (operand m.graph m.values) m.graph.outputs }
-
-abbrev pub step_of : Machine → Machine
-step_of m = record m { registers = next_registers m.graph m.values m.clocked m.registers; memories = next_memories m.graph m.values m.used m.memories }
-
-chain : (m : Machine) → IsMachine m → IsMachine (note_before_of (settle_of m)) → IsMachine (step_of (note_before_of (settle_of m)))
-    → RunsCycle (simulation_of m) (simulation_of (note_after_of (settle_of (step_of (note_before_of (settle_of m))))))
-chain m is noted stepped = record {
-  cycle = record {
-    v = valuation (settle_of m).values;
-    w = valuation (settle_of (step_of (note_before_of (settle_of m)))).values;
-    settled = settles m is;
-    edge = sym (edge_state (note_before_of (settle_of m)) noted);
-    settled_again = settles (step_of (note_before_of (settle_of m))) stepped;
-    before_is = outputs_are m.graph (settle_of m).values m.graph.outputs;
-    after_is = outputs_are m.graph (settle_of (step_of (note_before_of (settle_of m)))).values m.graph.outputs;
-  };
-  tree = refl;
-  inputs = refl;
-}
-
-pub runs_cycle : (m a b c d e : Machine) → IsMachine m → IsMachine b → IsMachine c → a ≡ settle_of m → b ≡ note_before_of a → c ≡ step_of b → d ≡ settle_of c → e ≡ note_after_of d → RunsCycle (simulation_of m) (simulation_of e)
-runs_cycle m a b c d e is noted stepped p q r s t =
-    let b_is : b ≡ note_before_of (settle_of m) = q ∙ ap note_before_of p in
-    let c_is : c ≡ step_of (note_before_of (settle_of m)) = r ∙ ap step_of b_is in
-    let e_is : e ≡ note_after_of (settle_of (step_of (note_before_of (settle_of m)))) = t ∙ ap note_after_of (s ∙ ap settle_of c_is) in
-    subst (λ (z : Machine). RunsCycle (simulation_of m) (simulation_of z)) (sym e_is) (chain m is (subst IsMachine b_is noted) (subst IsMachine c_is stepped))

@@ -9,8 +9,8 @@ use Rattle.hc_bits.specs.BitVector.{BitVector}
 use Rattle.hc_signal.specs.declared.signal.WritePort.{WritePort}
 use Rattle.hc_signal.specs.Graph.{Graph}
 use Rattle.hc_bench.specs.Simulation.{word_after}
-use Rattle.hc_flatsim.specs.Machine.{number_at, numbers}
-use Rattle.hc_flatsim.specs.Settling.{operand, valuation}
+use Rattle.hc_flatsim.specs.Machine.{number_at, numbers, valuation}
+use Rattle.hc_flatsim.specs.Settling.{operand}
 use Rattle.hc_flatsim.specs.Edges.{written, written_all}
 
 differ : (a k : ℕ) → (a ≡ k → ⊥) → eqb a k ≡ false

@@ -10,8 +10,8 @@ use Rattle.hc_signal.specs.declared.signal.Node.{Node}
 use Rattle.hc_signal.specs.declared.signal.Node.TheVariants.{Reg}
 use Rattle.hc_signal.specs.Graph.{Graph}
 use Rattle.hc_bench.specs.Simulation.{next_value}
-use Rattle.hc_flatsim.specs.Machine.{number_at}
-use Rattle.hc_flatsim.specs.Settling.{valuation, operand}
+use Rattle.hc_flatsim.specs.Machine.{number_at, valuation}
+use Rattle.hc_flatsim.specs.Settling.{operand}
 use Rattle.hc_flatsim.specs.Updates.{updated}
 
 abbrev pub places : List NodeId → List ℕ

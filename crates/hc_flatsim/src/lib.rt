@@ -5,6 +5,7 @@ mod compute;
 mod edges;
 mod flat;
 mod inputs;
+mod known;
 mod make;
 mod operands;
 mod ops;

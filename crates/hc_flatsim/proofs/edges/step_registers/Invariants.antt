@@ -1,4 +1,4 @@
-use Rattle.std.proofs.Common.{◌≡◌, drop}
+use Rattle.std.proofs.Common.{◌≡◌, false, drop}
 use Rattle.hc_flatsim.specs.Edges.{next_registers}
 use Rattle.hc_flatsim.specs.Machine.{node_widths, widths}
 use Rattle.hc_flatsim.proofs.edges.step_registers.Given as goal
@@ -7,3 +7,4 @@ abbrev pub invariant-clocked : goal.invariant-clocked
 invariant-clocked l =
     (next_registers l.circuit l.values (drop l.id-index l.clocked) l.registers ≡ next_registers l.circuit l.values l.clocked l.initial.registers)
     × (widths l.registers ≡ node_widths l.circuit.nodes)
+    × (l.changed ≡ false → l.registers ≡ l.initial.registers)

@@ -1,7 +1,7 @@
 -- What a simulator knows of its values, and a whole cycle.
 use Rattle.std.proofs.Common.{◌≡◌, ℕ, List, map, refl, sym, subst, ◌∙◌, ap, ap₂}
 use Rattle.hc_bits.specs.BitVector.{BitVector}
-use Rattle.hc_signal.specs.Tree.{Tree, leaf}
+use Rattle.hc_signal.specs.Tree.{leaf}
 use Rattle.hc_signal.specs.Occurrences.{Occurrence}
 use Rattle.hc_bench.specs.Simulation.{State, IsSettled, clock_edge, outputs_of}
 use Rattle.hc_bench.specs.Trace.{Simulation, RunsCycle}
@@ -11,7 +11,7 @@ use Rattle.hc_flatsim.specs.Machine.{Machine, IsMachine, IsKnown, AreSettled, Is
 use Rattle.hc_flatsim.specs.Settling.{given_of, operand, settled}
 use Rattle.hc_flatsim.specs.Edges.{next_memories, next_registers}
 use Rattle.hc_flatsim.proofs.Cycles.{outputs_are, settles}
-use Rattle.hc_flatsim.proofs.Stepped.{edge_of, edge_state}
+use Rattle.hc_flatsim.proofs.Stepped.{edge_state}
 
 -- ---- the values settle
 

@@ -1,13 +1,12 @@
 -- The parts of a new simulator make one at the start.
-use Rattle.std.proofs.Common.{◌≡◌, ℕ, List, [], map, refl, sym, subst, ◌∙◌, ap}
+use Rattle.std.proofs.Common.{◌≡◌, List, map, sym, subst, ◌∙◌, ap}
 use Rattle.std.specs.Prelude.{◌↔◌}
 use Rattle.hc_bits.specs.BitVector.{BitVector}
 use Rattle.hc_signal.specs.Member.{Has}
-use Rattle.hc_signal.specs.declared.signal.NodeId.{NodeId}
 use Rattle.hc_signal.specs.declared.signal.MemId.{MemId}
 use Rattle.hc_signal.specs.declared.signal.NodeRow.{NodeRow}
 use Rattle.hc_signal.specs.declared.signal.Port.{Port}
-use Rattle.hc_signal.specs.Graph.{Graph, mem, Reached}
+use Rattle.hc_signal.specs.Graph.{mem, Reached}
 use Rattle.hc_signal.specs.Lawful.{IsLawful}
 use Rattle.hc_signal.specs.Tree.{leaf}
 use Rattle.hc_flatsim.specs.declared.known.Known.{Known}

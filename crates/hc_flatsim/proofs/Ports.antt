@@ -1,6 +1,6 @@
 -- Inputs and outputs of a flat simulator.
-use Rattle.std.proofs.Common.{◌≡◌, ℕ, zero, suc, ◌<◌, List, [], ◌∷◌, map, length, get_or, refl, sym, subst, ◌∙◌, ap, ap₂, arith}
-use Rattle.std.specs.Prelude.{slice_get, slice_set, slice_index, Option, Some, None, option_map}
+use Rattle.std.proofs.Common.{◌≡◌, ℕ, zero, suc, ◌<◌, List, [], ◌∷◌, map, length, get_or, refl, sym, ◌∙◌, ap, ap₂, arith}
+use Rattle.std.specs.Prelude.{slice_get, slice_set, slice_index, Some, option_map}
 use Rattle.std.proofs.lemmas.List.{length-map}
 use Rattle.std.proofs.lemmas.Option.{slice_get-map, slice_get_within, get_or_from_slice_get}
 use Rattle.hc_bits.specs.BitVector.{BitVector}
@@ -11,9 +11,8 @@ use Rattle.hc_signal.specs.Lawful.{IsLawful, HaveWidths}
 use Rattle.hc_bench.specs.Simulation.{reset}
 use Rattle.hc_bench.specs.Steps.{IsPortValue}
 use Rattle.hc_bench.specs.Trace.{Simulation}
-use Rattle.hc_signal.specs.Tree.{leaf}
 use Rattle.hc_flatsim.specs.declared.known.Known.TheVariants.{Nothing}
-use Rattle.hc_flatsim.specs.Machine.{Machine, IsMachine, simulation_of, state_of, widths, numbers, port_widths}
+use Rattle.hc_flatsim.specs.Machine.{Machine, IsMachine, simulation_of, widths, numbers, port_widths}
 use Rattle.hc_flatsim.specs.Settling.{operand}
 use Rattle.hc_flatsim.specs.Edges.{initial_registers}
 use Rattle.hc_flatsim.proofs.Shapes.{found, same_set}

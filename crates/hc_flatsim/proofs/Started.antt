@@ -1,6 +1,6 @@
 -- A new simulator.
-use Rattle.std.proofs.Common.{◌≡◌, ℕ, zero, suc, ◌<◌, List, [], ◌∷◌, map, length, replicate, refl, sym, subst, ◌∙◌, ap, ap₂, arith}
-use Rattle.std.specs.Prelude.{◌↔◌, slice_get, Option, Some, None, option_map, IfOk, Result}
+use Rattle.std.proofs.Common.{◌≡◌, ℕ, zero, suc, List, [], ◌∷◌, map, length, replicate, refl, sym, subst, ◌∙◌, ap, ap₂}
+use Rattle.std.specs.Prelude.{◌↔◌, slice_get, Option, Some, option_map}
 use Rattle.std.proofs.lemmas.Option.{slice_get-map}
 use Rattle.std.proofs.lemmas.List.{length-replicate}
 use Rattle.hc_bits.specs.BitVector.{BitVector}
@@ -11,7 +11,6 @@ use Rattle.hc_signal.specs.declared.signal.NodeRow.{NodeRow}
 use Rattle.hc_signal.specs.declared.signal.Memory.{Memory as MemoryOf}
 use Rattle.hc_signal.specs.declared.signal.Port.{Port}
 use Rattle.hc_signal.specs.declared.signal.Node.{Node as NodeOf}
-use Rattle.hc_signal.specs.declared.signal.Node.TheVariants.{Reg}
 use Rattle.hc_signal.specs.Graph.{Graph, Vertex, mem, Reached}
 use Rattle.hc_signal.specs.Tree.{leaf}
 use Rattle.hc_signal.specs.Occurrences.{Occurrence}
@@ -23,9 +22,8 @@ use Rattle.hc_walk.proofs.Members.{has_map, has_from_map}
 use Rattle.hc_walk.proofs.InRange.{HasRow, reached_row}
 use Rattle.hc_walk.proofs.Walks.{ends_differ, AllDifferent as AllDiffer}
 use Rattle.hc_paths.specs.Digraph.{AllDifferent}
-use Rattle.hc_bench.specs.Simulation.{initial_register, initial_inputs, IsInitialState}
+use Rattle.hc_bench.specs.Simulation.{initial_register}
 use Rattle.hc_bench.specs.Trace.{IsAtStart}
-use Rattle.hc_flatsim.specs.Updates.{updated}
 use Rattle.hc_flatsim.specs.Machine.{Machine, IsMachine, at_node, registers_among, state_of, simulation_of, number_of, number_at, numbers, words_at, words_of, widths, node_widths, port_widths, memory_widths}
 use Rattle.hc_flatsim.specs.Edges.{places, initial_of, initial_of_row, initial_register_at, initial_registers}
 use Rattle.hc_flatsim.specs.Starting.{memories_among, zero_of, zeros_of_memory}

@@ -1,5 +1,5 @@
 -- The state after a clock edge and a reset.
-use Rattle.std.proofs.Common.{◌≡◌, ℕ, zero, suc, ◌<◌, List, [], ◌∷◌, map, length, refl, sym, subst, ◌∙◌, ap, ap₂, arith}
+use Rattle.std.proofs.Common.{◌≡◌, ℕ, List, [], ◌∷◌, map, refl, sym, subst, ◌∙◌, ap, ap₂}
 use Rattle.std.specs.Prelude.{slice_get, Option, Some, None}
 use Rattle.std.specs.List.{enumerate_from}
 use Rattle.hc_bits.specs.BitVector.{BitVector}
@@ -10,16 +10,15 @@ use Rattle.hc_signal.specs.declared.signal.NodeRow.{NodeRow}
 use Rattle.hc_signal.specs.declared.signal.Memory.{Memory}
 use Rattle.hc_signal.specs.declared.signal.Node.{Node}
 use Rattle.hc_signal.specs.declared.signal.Node.TheVariants.{Reg}
-use Rattle.hc_signal.specs.Graph.{Graph, mem, Reached}
+use Rattle.hc_signal.specs.Graph.{mem}
 use Rattle.hc_signal.specs.Tree.{leaf}
 use Rattle.hc_signal.specs.Occurrences.{Occurrence}
 use Rattle.hc_walk.proofs.Members.{has_map}
 use Rattle.hc_walk.proofs.InRange.{HasRow, reached_row}
 use Rattle.hc_paths.specs.Digraph.{AllDifferent}
-use Rattle.hc_bench.specs.Simulation.{State, next_value, next_register, next_memory, word_after, clock_edge, initial_register, reset}
+use Rattle.hc_bench.specs.Simulation.{next_value, next_register, next_memory, word_after, clock_edge, initial_register, reset}
 use Rattle.hc_flatsim.specs.Updates.{updated}
-use Rattle.hc_flatsim.specs.Machine.{Machine, IsMachine, at_node, registers_among, state_of, simulation_of, number_of, number_at, numbers, words_at, words_of, widths, node_widths, memory_widths, valuation}
-use Rattle.hc_flatsim.specs.Settling.{operand}
+use Rattle.hc_flatsim.specs.Machine.{Machine, IsMachine, at_node, registers_among, state_of, number_of, number_at, numbers, words_at, words_of, widths, memory_widths, valuation}
 use Rattle.hc_flatsim.specs.Edges.{places, memory_places, next_of_row, next_register_at, next_registers, next_of_memory, next_words_at, next_memories, initial_of, initial_of_row, initial_register_at, initial_registers}
 use Rattle.hc_flatsim.proofs.Changes.{updated_here}
 use Rattle.hc_flatsim.proofs.Shapes.{found}

@@ -1,5 +1,5 @@
 -- What a flat simulator holds, and the simulation that it stands for.
-use Rattle.std.specs.Prelude.{◌≡◌, ◌≤◌, ℕ, Bool, true, false, if◌then◌else◌, List, [], ◌∷◌, map, length, replicate, slice_get, Option, Some, None, ◌↔◌}
+use Rattle.std.specs.Prelude.{◌≡◌, ℕ, Bool, true, false, if◌then◌else◌, List, [], ◌∷◌, map, replicate, slice_get, Option, Some, None, ◌↔◌}
 use Rattle.hc_bits.specs.BitVector.{BitVector}
 use Rattle.hc_signal.specs.Member.{Has}
 use Rattle.hc_signal.specs.declared.signal.NodeId.{NodeId}

@@ -9,7 +9,6 @@ use Rattle.hc_signal.specs.declared.signal.NodeRow.{NodeRow}
 use Rattle.hc_signal.specs.declared.signal.Node.{Node}
 use Rattle.hc_signal.specs.declared.signal.Node.TheVariants.{Reg, Read}
 use Rattle.hc_signal.specs.Graph.{Graph}
-use Rattle.hc_signal.specs.Occurrences.{Occurrence}
 use Rattle.hc_signal.specs.Tree.{leaf}
 use Rattle.hc_bench.specs.Simulation.{State, value, vector_at}
 use Rattle.hc_flatsim.specs.Machine.{number_at, numbers, valuation, words_at, widths, node_widths, port_widths, memory_widths, IsFlatCircuit, Machine}

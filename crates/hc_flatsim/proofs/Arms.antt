@@ -1,21 +1,19 @@
 -- The value of each kind of node, as it is computed.
-use Rattle.std.proofs.Common.{◌≡◌, ℕ, zero, suc, ◌+◌, ◌<◌, ◌≤◌, List, [], ◌∷◌, map, length, replicate, get_or, refl, sym, subst, ◌∙◌, ap, ap₂, arith, Bool, true, false}
+use Rattle.std.proofs.Common.{◌≡◌, ℕ, zero, suc, ◌+◌, ◌<◌, ◌≤◌, List, [], ◌∷◌, map, length, replicate, get_or, refl, sym, subst, ◌∙◌, ap, ap₂, arith, Bool, false}
 use Rattle.std.specs.Prelude.{◌==◌, slice_get, slice_set, slice_index, Option, Some, None, option_map, sum}
 use Rattle.std.proofs.lemmas.Option.{slice_get_within, slice_get-map, same_Some}
 use Rattle.std.proofs.lemmas.List.{length-map}
-use Rattle.hc_bits.specs.BitVector.{BitVector, IsWidth, mux, cat_all}
+use Rattle.hc_bits.specs.BitVector.{BitVector, mux, cat_all}
 use Rattle.hc_signal.specs.Member.{Has, first, later}
 use Rattle.hc_signal.specs.declared.signal.NodeId.{NodeId}
 use Rattle.hc_signal.specs.declared.signal.MemId.{MemId}
 use Rattle.hc_signal.specs.declared.signal.NodeRow.{NodeRow}
-use Rattle.hc_signal.specs.declared.signal.Port.{Port}
-use Rattle.hc_signal.specs.declared.signal.Memory.{Memory}
 use Rattle.hc_signal.specs.declared.signal.Node.{Node}
-use Rattle.hc_signal.specs.declared.signal.Node.TheVariants.{Input, Wire, Const, Two, Not, Mux, Cat, Select, Reg, Read, InstOut, Op}
+use Rattle.hc_signal.specs.declared.signal.Node.TheVariants.{Input, Mux, Cat, Select, Reg, Read}
 use Rattle.hc_signal.specs.Graph.{Graph}
 use Rattle.hc_signal.specs.Lawful.{IsLawful, IsLawfulNode}
-use Rattle.hc_flatsim.specs.Machine.{widths, node_widths, port_widths, memory_widths, numbers, number_of, number_at, words_of, words_at, word_or_zero}
-use Rattle.hc_flatsim.specs.Settling.{Given, IsGiven, operand, own_value, own_vector, AreWithin}
+use Rattle.hc_flatsim.specs.Machine.{widths, node_widths, memory_widths, numbers, number_of, number_at, words_of, words_at, word_or_zero}
+use Rattle.hc_flatsim.specs.Settling.{Given, IsGiven, operand, own_vector, AreWithin}
 use Rattle.hc_flatsim.proofs.Shapes.{many, found, same_set, id_within, value_within}
 use Rattle.hc_flatsim.proofs.Computing.{arm, parts_within, parts_widths, cat_width, mux_width, cases_widths}
 use Rattle.hc_flatsim.proofs.Registers.{read_at, alike}

@@ -1,19 +1,19 @@
 -- The value of each kind of node.
-use Rattle.std.proofs.Common.{◌≡◌, ℕ, zero, suc, ◌+◌, ◌<◌, ◌≤◌, List, [], ◌∷◌, map, length, get_or, refl, sym, subst, ◌∙◌, ap, ap₂, arith}
-use Rattle.std.specs.Prelude.{◌-◌, min, slice_get, slice_index, Option, Some, None, option_map, sum, sum_by}
+use Rattle.std.proofs.Common.{◌≡◌, ℕ, ◌+◌, ◌<◌, ◌≤◌, List, [], ◌∷◌, map, length, get_or, refl, sym, subst, ◌∙◌, ap, ap₂, arith}
+use Rattle.std.specs.Prelude.{◌-◌, min, slice_get, Some, option_map, sum, sum_by}
 use Rattle.std.proofs.lemmas.List.{length-map}
 use Rattle.std.proofs.lemmas.Option.{slice_get-get_or, get_or_from_slice_get, slice_get-map}
 use Rattle.std.proofs.lemmas.List.Sums.{sum_by-cons, sum-map}
 use Rattle.hc_bits.proofs.Choices.{mux_read}
 use Rattle.hc_walk.proofs.Members.{has_slice}
-use Rattle.hc_bits.specs.BitVector.{BitVector, not_, select, cat, cat_all, mux}
+use Rattle.hc_bits.specs.BitVector.{BitVector, cat_all, mux}
 use Rattle.hc_signal.specs.Member.{Has, first, later}
 use Rattle.hc_signal.specs.declared.signal.NodeId.{NodeId}
 use Rattle.hc_signal.specs.declared.signal.NodeRow.{NodeRow}
 use Rattle.hc_signal.specs.declared.signal.Node.{Node}
 use Rattle.hc_signal.specs.Graph.{Graph}
-use Rattle.hc_signal.specs.Lawful.{HasWidth, AllHaveWidth, HaveWidths, IsLawfulNode}
-use Rattle.hc_flatsim.specs.Machine.{widths, node_widths}
+use Rattle.hc_signal.specs.Lawful.{AllHaveWidth, HaveWidths, IsLawfulNode}
+use Rattle.hc_flatsim.specs.Machine.{widths}
 use Rattle.hc_flatsim.specs.Settling.{operand, Given, own_value, own_vector, AreWithin}
 use Rattle.hc_signal.specs.declared.signal.Node.TheVariants.{Input, Wire, Const, Two, Not, Mux, Cat, Select, Reg, Read, InstOut, Op}
 use Rattle.hc_flatsim.specs.Edges.{initial_of}

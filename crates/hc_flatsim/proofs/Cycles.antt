@@ -1,9 +1,9 @@
 -- The values of a schedule settle, and outputs are those of the values.
-use Rattle.std.proofs.Common.{◌≡◌, ℕ, zero, suc, ◌+◌, ◌<◌, ◌≤◌, List, [], ◌∷◌, map, length, replicate, refl, sym, subst, ◌∙◌, ap, ap₂, arith, Bool, true, false}
-use Rattle.std.specs.Prelude.{slice_get, slice_index, Option, Some, None}
+use Rattle.std.proofs.Common.{◌≡◌, ℕ, List, [], ◌∷◌, map, length, refl, sym, ◌∙◌, ap}
+use Rattle.std.specs.Prelude.{slice_get, slice_index, Some, None}
 use Rattle.std.proofs.lemmas.List.{length-map}
 use Rattle.hc_bits.specs.BitVector.{BitVector}
-use Rattle.hc_signal.specs.Member.{Has, first, later}
+use Rattle.hc_signal.specs.Member.{first, later}
 use Rattle.hc_signal.specs.declared.signal.NodeId.{NodeId}
 use Rattle.hc_signal.specs.declared.signal.MemId.{MemId}
 use Rattle.hc_signal.specs.declared.signal.NodeRow.{NodeRow}
@@ -12,13 +12,13 @@ use Rattle.hc_signal.specs.declared.signal.Instance.{Instance}
 use Rattle.hc_signal.specs.declared.signal.Node.{Node}
 use Rattle.hc_signal.specs.declared.signal.Node.TheVariants.{Input, Wire, Const, Two, Not, Mux, Cat, Select, Reg, Read, InstOut, Op}
 use Rattle.hc_signal.specs.Graph.{Graph, node, mem, Reached}
-use Rattle.hc_signal.specs.Tree.{leaf, graph}
-use Rattle.hc_signal.specs.Occurrences.{Occurrence, IsReachedOccurrence, IsReachedPath, row_at, graph_at}
+use Rattle.hc_signal.specs.Tree.{leaf}
+use Rattle.hc_signal.specs.Occurrences.{IsReachedPath, graph_at}
 use Rattle.hc_paths.proofs.Composed.{reached_fanin}
-use Rattle.hc_bench.specs.Simulation.{value, IsSettled, outputs_of}
+use Rattle.hc_bench.specs.Simulation.{value, IsSettled}
 use Rattle.hc_bench.specs.Trace.{IsSimulation}
-use Rattle.hc_flatsim.specs.Machine.{Machine, IsMachine, is_register, is_register_row, state_of, simulation_of, number_at, numbers, words_at, node_widths, port_widths}
-use Rattle.hc_flatsim.specs.Settling.{Given, given_of, own_value, operand, settled, valuation}
+use Rattle.hc_flatsim.specs.Machine.{Machine, IsMachine, is_register, is_register_row, state_of, simulation_of, number_at, numbers, words_at, port_widths, valuation}
+use Rattle.hc_flatsim.specs.Settling.{given_of, own_value, operand, settled}
 use Rattle.hc_flatsim.proofs.Settled.{computed}
 use Rattle.hc_flatsim.proofs.Shapes.{many}
 use Rattle.hc_flatsim.proofs.Held.{held, no_path, among_has, is_state}

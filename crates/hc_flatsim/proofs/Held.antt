@@ -1,6 +1,6 @@
 -- The state of a flat simulator is one of its circuit.
-use Rattle.std.proofs.Common.{◌≡◌, ℕ, zero, suc, ◌+◌, ◌<◌, ◌≤◌, ◌⊎◌, inl, inr, List, [], ◌∷◌, map, length, replicate, refl, sym, subst, ◌∙◌, ap, ap₂, arith, Bool, true, false}
-use Rattle.std.specs.Prelude.{◌↔◌, ◌≢◌, ◌==◌, if◌then◌else◌, slice_get, Option, Some, None}
+use Rattle.std.proofs.Common.{◌≡◌, ℕ, suc, ◌⊎◌, inl, inr, List, [], ◌∷◌, map, length, refl, sym, subst, ◌∙◌, ap, arith, Bool, true, false}
+use Rattle.std.specs.Prelude.{◌≢◌, if◌then◌else◌, slice_get, Option, Some, None}
 use Rattle.std.proofs.lemmas.Option.{slice_get-map}
 use Rattle.std.proofs.lemmas.List.{length-map, length-replicate}
 use Rattle.std.proofs.lemmas.Bool.Decides.{eqb_tells}
@@ -15,13 +15,13 @@ use Rattle.hc_signal.specs.declared.signal.Node.{Node}
 use Rattle.hc_signal.specs.declared.signal.Node.TheVariants.{Input, Wire, Const, Two, Not, Mux, Cat, Select, Reg, Read, InstOut, Op}
 use Rattle.hc_signal.specs.Graph.{Graph, node, mem, inst, Reached}
 use Rattle.hc_signal.specs.Lawful.{IsLawful}
-use Rattle.hc_signal.specs.Tree.{Tree, leaf}
+use Rattle.hc_signal.specs.Tree.{leaf}
 use Rattle.hc_signal.specs.Occurrences.{Occurrence, IsReachedPath}
 use Rattle.hc_walk.proofs.Members.{has_map, has_from_map}
 use Rattle.hc_walk.proofs.InRange.{HasRow, reached_row}
 use Rattle.hc_walk.proofs.Walks.{one_place}
 use Rattle.hc_paths.specs.Digraph.{AllDifferent}
-use Rattle.hc_bench.specs.Simulation.{look_up, same_occurrence, IsRegister, IsMemory, IsStateOf}
+use Rattle.hc_bench.specs.Simulation.{look_up, IsRegister, IsMemory, IsStateOf}
 use Rattle.hc_flatsim.specs.Machine.{Machine, IsMachine, at_node, is_register, is_register_row, registers_among, state_of, number_at, numbers, words_at, words_of, widths, memory_widths}
 use Rattle.hc_flatsim.proofs.Settled.{place}
 use Rattle.hc_flatsim.proofs.Shapes.{some_item, found}

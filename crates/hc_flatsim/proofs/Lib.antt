@@ -7,6 +7,7 @@ pub mod Held
 pub mod Cycles
 pub mod Written
 pub mod Stepped
+pub mod Knowing
 pub mod Ports
 pub mod Started
 pub mod Arms

@@ -1,18 +1,20 @@
 -- The parts of a new simulator make one at the start.
-use Rattle.std.proofs.Common.{◌≡◌, ℕ, List, [], map, refl, sym, ◌∙◌, ap}
+use Rattle.std.proofs.Common.{◌≡◌, List, map, sym, subst, ◌∙◌, ap}
 use Rattle.std.specs.Prelude.{◌↔◌}
 use Rattle.hc_bits.specs.BitVector.{BitVector}
 use Rattle.hc_signal.specs.Member.{Has}
-use Rattle.hc_signal.specs.declared.signal.NodeId.{NodeId}
 use Rattle.hc_signal.specs.declared.signal.MemId.{MemId}
 use Rattle.hc_signal.specs.declared.signal.NodeRow.{NodeRow}
 use Rattle.hc_signal.specs.declared.signal.Port.{Port}
-use Rattle.hc_signal.specs.Graph.{Graph, mem, Reached}
+use Rattle.hc_signal.specs.Graph.{mem, Reached}
 use Rattle.hc_signal.specs.Lawful.{IsLawful}
+use Rattle.hc_signal.specs.Tree.{leaf}
+use Rattle.hc_flatsim.specs.declared.known.Known.{Known}
+use Rattle.hc_flatsim.specs.declared.known.Known.TheVariants.{Nothing}
 use Rattle.hc_paths.specs.Digraph.{AllDifferent}
 use Rattle.hc_paths.specs.Schedule.{IsSchedule}
 use Rattle.hc_bench.specs.Trace.{IsAtStart}
-use Rattle.hc_flatsim.specs.Machine.{Machine, IsMachine, IsFlatCircuit, simulation_of, widths, node_widths}
+use Rattle.hc_flatsim.specs.Machine.{Machine, IsMachine, IsFlatCircuit, IsKnown, numbers, registers_among, simulation_of, state_of, valuation, widths, node_widths}
 use Rattle.hc_flatsim.specs.Edges.{initial_registers}
 use Rattle.hc_flatsim.specs.Starting.{zero_of, zeros_of_memory}
 use Rattle.hc_flatsim.proofs.Started.{zero_rows, zero_ports, zero_memories, at_start}
@@ -23,16 +25,17 @@ zeros rows = map (λ (row : NodeRow). zero_of row.width) rows
 abbrev pub port_zeros : List Port → List BitVector
 port_zeros ports = map (λ (p : Port). zero_of p.width) ports
 
-module _ (m : Machine) (l : IsLawful m.graph) (flat : IsFlatCircuit m.graph) (s : IsSchedule m.graph m.order)
+module _ (m : Machine) (l : IsLawful m.graph) (flat : IsFlatCircuit m.graph) (s : IsSchedule m.graph m.order) (clocked : m.clocked ≡ registers_among m.graph m.order)
     (used : (id : MemId) → Has m.used id ↔ Reached m.graph (mem id.0)) (once : AllDifferent m.used)
-    (values : m.values ≡ zeros m.graph.nodes) (registers : m.registers ≡ initial_registers m.graph m.order (zeros m.graph.nodes)) (register_widths : widths m.registers ≡ node_widths m.graph.nodes)
+    (values : m.values ≡ zeros m.graph.nodes) (registers : m.registers ≡ initial_registers m.graph m.clocked (zeros m.graph.nodes)) (register_widths : widths m.registers ≡ node_widths m.graph.nodes)
     (memories : m.memories ≡ map zeros_of_memory m.graph.memories) (inputs : m.inputs ≡ port_zeros m.graph.ports.inputs)
-    (before : m.before ≡ port_zeros m.graph.ports.outputs) (after : m.after ≡ port_zeros m.graph.ports.outputs) where
+    (before : m.before ≡ port_zeros m.graph.ports.outputs) (after : m.after ≡ port_zeros m.graph.ports.outputs) (known : m.known ≡ Nothing) where
   pub made : IsMachine m
   made = record {
     lawful = l;
     flat = flat;
     schedule = s;
+    clocked = clocked;
     used = used;
     used_once = once;
     values = ap widths values ∙ zero_rows m.graph.nodes;
@@ -41,6 +44,7 @@ module _ (m : Machine) (l : IsLawful m.graph) (flat : IsFlatCircuit m.graph) (s 
     inputs = ap widths inputs ∙ zero_ports m.graph.ports.inputs;
     before = ap widths before ∙ zero_ports m.graph.ports.outputs;
     after = ap widths after ∙ zero_ports m.graph.ports.outputs;
+    known = subst (λ (k : Known). IsKnown k (leaf m.graph) (state_of m) (numbers m.inputs) (valuation m.values)) (sym known) tt;
   }
 
   pub made_start : IsAtStart (simulation_of m)

@@ -1,8 +1,8 @@
 -- Inputs and outputs of a flat simulator.
-use Rattle.std.proofs.Common.{◌≡◌, ℕ, zero, suc, ◌<◌, List, [], ◌∷◌, map, length, get_or, refl, sym, subst, ◌∙◌, ap, ap₂, arith}
-use Rattle.std.specs.Prelude.{slice_get, slice_set, slice_index, Option, Some, None, option_map}
+use Rattle.std.proofs.Common.{◌≡◌, ℕ, zero, suc, ◌<◌, List, [], ◌∷◌, map, length, get_or, refl, sym, ◌∙◌, ap, ap₂, arith}
+use Rattle.std.specs.Prelude.{slice_get, slice_set, slice_index, Some, option_map}
 use Rattle.std.proofs.lemmas.List.{length-map}
-use Rattle.std.proofs.lemmas.Option.{slice_get-map, get_or_from_slice_get}
+use Rattle.std.proofs.lemmas.Option.{slice_get-map, slice_get_within, get_or_from_slice_get}
 use Rattle.hc_bits.specs.BitVector.{BitVector}
 use Rattle.hc_signal.specs.declared.signal.NodeId.{NodeId}
 use Rattle.hc_signal.specs.declared.signal.Port.{Port}
@@ -11,8 +11,8 @@ use Rattle.hc_signal.specs.Lawful.{IsLawful, HaveWidths}
 use Rattle.hc_bench.specs.Simulation.{reset}
 use Rattle.hc_bench.specs.Steps.{IsPortValue}
 use Rattle.hc_bench.specs.Trace.{Simulation}
-use Rattle.hc_signal.specs.Tree.{leaf}
-use Rattle.hc_flatsim.specs.Machine.{Machine, IsMachine, simulation_of, state_of, widths, numbers, port_widths}
+use Rattle.hc_flatsim.specs.declared.known.Known.TheVariants.{Nothing}
+use Rattle.hc_flatsim.specs.Machine.{Machine, IsMachine, simulation_of, widths, numbers, port_widths}
 use Rattle.hc_flatsim.specs.Settling.{operand}
 use Rattle.hc_flatsim.specs.Edges.{initial_registers}
 use Rattle.hc_flatsim.proofs.Shapes.{found, same_set}
@@ -47,13 +47,27 @@ set_widths xs ports n x e v =
     let y : (y : BitVector) × (slice_get xs n ≡ Some y) × (y.width ≡ v.0.width) = found (λ (b : BitVector). b.width) (λ (q : Port). q.width) xs ports n v.0 e v.1 in
     same_set (λ (b : BitVector). b.width) xs n x y.0 y.1 (v.2.1 ∙ sym y.2) ∙ e
 
+pub input_within : (xs : List BitVector) (ports : List Port) (n : ℕ) (x : BitVector) → widths xs ≡ port_widths ports → IsPortValue ports n x → n < length xs
+input_within xs ports n x e v =
+    let y : (y : BitVector) × (slice_get xs n ≡ Some y) × (y.width ≡ v.0.width) = found (λ (b : BitVector). b.width) (λ (q : Port). q.width) xs ports n v.0 e v.1 in
+    slice_get_within xs n y.0 y.1
+
 numbers_set : (xs : List BitVector) (n : ℕ) (x : BitVector) → numbers (slice_set xs n x) ≡ slice_set (numbers xs) n x.value
 numbers_set [] n x = refl
 numbers_set (y ∷ xs) zero x = refl
 numbers_set (y ∷ xs) (suc n) x = ap (λ (l : List ℕ). y.value ∷ l) (numbers_set xs n x)
 
-pub set_is : (m new : Machine) (n : ℕ) (x : BitVector) → new ≡ record m { inputs = slice_set m.inputs n x } → simulation_of new ≡ record (simulation_of m) { inputs = slice_set (simulation_of m).inputs n x.value }
+pub set_is : (m new : Machine) (n : ℕ) (x : BitVector) → new ≡ record m { inputs = slice_set m.inputs n x; known = Nothing } → simulation_of new ≡ record (simulation_of m) { inputs = slice_set (simulation_of m).inputs n x.value }
 set_is m new n x e = ap simulation_of e ∙ ap (λ (l : List ℕ). let s : Simulation = record (simulation_of m) { inputs = l } in s) (numbers_set m.inputs n x)
 
-pub reset_is : (m new : Machine) → IsMachine m → new ≡ record m { registers = initial_registers m.graph m.order m.registers } → simulation_of new ≡ record (simulation_of m) { state = reset (simulation_of m).tree (simulation_of m).state }
+pub set_same : (m : Machine) (n : ℕ) (x : BitVector) → slice_set m.inputs n x ≡ m.inputs → simulation_of m ≡ record (simulation_of m) { inputs = slice_set (simulation_of m).inputs n x.value }
+set_same m n x e = ap (λ (l : List ℕ). let s : Simulation = record (simulation_of m) { inputs = l } in s) (ap numbers (sym e) ∙ numbers_set m.inputs n x)
+
+-- what is set to the value that it has
+pub set_read : {X : Type 0} (xs : List X) (n : ℕ) (d x : X) → n < length xs → get_or xs n d ≡ x → slice_set xs n x ≡ xs
+set_read [] n d x l e = refl
+set_read (y ∷ xs) zero d x l e = ap (λ z. z ∷ xs) (sym e)
+set_read (y ∷ xs) (suc n) d x l e = ap (λ z. y ∷ z) (set_read xs n d x (omega (arith, l)) e)
+
+pub reset_is : (m new : Machine) → IsMachine m → new ≡ record m { registers = initial_registers m.graph m.clocked m.registers; known = Nothing } → simulation_of new ≡ record (simulation_of m) { state = reset (simulation_of m).tree (simulation_of m).state }
 reset_is m new is e = ap simulation_of e ∙ sym (ap (λ s. let t : Simulation = record (simulation_of m) { state = s } in t) (reset_state m is))

@@ -1,6 +1,6 @@
 -- A new simulator.
-use Rattle.std.proofs.Common.{◌≡◌, ℕ, zero, suc, ◌<◌, List, [], ◌∷◌, map, length, replicate, refl, sym, subst, ◌∙◌, ap, ap₂, arith}
-use Rattle.std.specs.Prelude.{◌↔◌, slice_get, Option, Some, None, option_map, IfOk, Result}
+use Rattle.std.proofs.Common.{◌≡◌, ℕ, zero, suc, List, [], ◌∷◌, map, length, replicate, refl, sym, subst, ◌∙◌, ap, ap₂}
+use Rattle.std.specs.Prelude.{◌↔◌, slice_get, Option, Some, option_map}
 use Rattle.std.proofs.lemmas.Option.{slice_get-map}
 use Rattle.std.proofs.lemmas.List.{length-replicate}
 use Rattle.hc_bits.specs.BitVector.{BitVector}
@@ -11,7 +11,6 @@ use Rattle.hc_signal.specs.declared.signal.NodeRow.{NodeRow}
 use Rattle.hc_signal.specs.declared.signal.Memory.{Memory as MemoryOf}
 use Rattle.hc_signal.specs.declared.signal.Port.{Port}
 use Rattle.hc_signal.specs.declared.signal.Node.{Node as NodeOf}
-use Rattle.hc_signal.specs.declared.signal.Node.TheVariants.{Reg}
 use Rattle.hc_signal.specs.Graph.{Graph, Vertex, mem, Reached}
 use Rattle.hc_signal.specs.Tree.{leaf}
 use Rattle.hc_signal.specs.Occurrences.{Occurrence}
@@ -23,16 +22,15 @@ use Rattle.hc_walk.proofs.Members.{has_map, has_from_map}
 use Rattle.hc_walk.proofs.InRange.{HasRow, reached_row}
 use Rattle.hc_walk.proofs.Walks.{ends_differ, AllDifferent as AllDiffer}
 use Rattle.hc_paths.specs.Digraph.{AllDifferent}
-use Rattle.hc_bench.specs.Simulation.{initial_register, initial_inputs, IsInitialState}
+use Rattle.hc_bench.specs.Simulation.{initial_register}
 use Rattle.hc_bench.specs.Trace.{IsAtStart}
-use Rattle.hc_flatsim.specs.Updates.{updated}
 use Rattle.hc_flatsim.specs.Machine.{Machine, IsMachine, at_node, registers_among, state_of, simulation_of, number_of, number_at, numbers, words_at, words_of, widths, node_widths, port_widths, memory_widths}
 use Rattle.hc_flatsim.specs.Edges.{places, initial_of, initial_of_row, initial_register_at, initial_registers}
 use Rattle.hc_flatsim.specs.Starting.{memories_among, zero_of, zeros_of_memory}
 use Rattle.hc_flatsim.proofs.Changes.{updated_here}
 use Rattle.hc_flatsim.proofs.Shapes.{found}
-use Rattle.hc_flatsim.proofs.Held.{keys_differ, one_node, has_among, order_differ, reg_row, is_state}
-use Rattle.hc_flatsim.proofs.Stepped.{pairs_agree, init_node, init_row}
+use Rattle.hc_flatsim.proofs.Held.{reg_row, is_state}
+use Rattle.hc_flatsim.proofs.Stepped.{pairs_agree, places_differ, init_node, init_row}
 
 -- ---- the memories that a walk met
 
@@ -95,7 +93,7 @@ port_zeros (p ∷ ports) = ap (λ (l : List ℕ). 0 ∷ l) (port_zeros ports)
 -- ---- the initial state
 
 module _ (m : Machine) (is : IsMachine m) (start : List BitVector) (start_widths : widths start ≡ node_widths m.graph.nodes)
-    (registers_are : m.registers ≡ initial_registers m.graph m.order start) (memories_are : m.memories ≡ map zeros_of_memory m.graph.memories)
+    (registers_are : m.registers ≡ initial_registers m.graph m.clocked start) (memories_are : m.memories ≡ map zeros_of_memory m.graph.memories)
     (inputs_are : m.inputs ≡ map (λ (p : Port). zero_of p.width) m.graph.ports.inputs) (before_are : m.before ≡ map (λ (p : Port). zero_of p.width) m.graph.ports.outputs)
     (after_are : m.after ≡ map (λ (p : Port). zero_of p.width) m.graph.ports.outputs) where
   abbrev pair : NodeId → Occurrence × ℕ
@@ -110,7 +108,7 @@ module _ (m : Machine) (is : IsMachine m) (start : List BitVector) (start_widths
       let x : (x : BitVector) × (slice_get start id.0 ≡ Some x) × (x.width ≡ r.0.width) = found (λ (b : BitVector). b.width) (λ (row : NodeRow). row.width) start m.graph.nodes id.0 r.0 start_widths r.1 in
       let new : slice_get m.registers id.0 ≡ Some (initial_register_at m.graph id.0 x.0) =
       ap (λ (l : List BitVector). slice_get l id.0) registers_are
-      ∙ updated_here (initial_register_at m.graph) (places m.order) id.0 start x.0 (keys_differ (λ (i : NodeId). i.0) one_node m.order (order_differ m is)) (has_map (λ (i : NodeId). i.0) (has_among m.graph m.order id c).0) x.1 in
+      ∙ updated_here (initial_register_at m.graph) (places m.clocked) id.0 start x.0 (places_differ m is) (has_map (λ (i : NodeId). i.0) (subst (λ (l : List NodeId). Has l id) (sym is.clocked) c)) x.1 in
       ap (λ (o : Option NodeRow). (at_node id.0, init_row o)) r.1 ∙ ap (λ (z : NodeOf). (at_node id.0, init_node z)) r.2.4
       ∙ sym (ap (λ o. (at_node id.0, number_of o)) new ∙ ap (λ (o : Option NodeRow). (at_node id.0, (initial_of_row o x.0).value)) r.1 ∙ ap (λ (z : NodeOf). (at_node id.0, (initial_of z x.0).value)) r.2.4)
 

@@ -1,5 +1,5 @@
--- The state after a clock edge, a reset and a whole cycle.
-use Rattle.std.proofs.Common.{◌≡◌, ℕ, zero, suc, ◌<◌, List, [], ◌∷◌, map, length, refl, sym, subst, ◌∙◌, ap, ap₂, arith}
+-- The state after a clock edge and a reset.
+use Rattle.std.proofs.Common.{◌≡◌, ℕ, List, [], ◌∷◌, map, refl, sym, subst, ◌∙◌, ap, ap₂}
 use Rattle.std.specs.Prelude.{slice_get, Option, Some, None}
 use Rattle.std.specs.List.{enumerate_from}
 use Rattle.hc_bits.specs.BitVector.{BitVector}
@@ -10,23 +10,20 @@ use Rattle.hc_signal.specs.declared.signal.NodeRow.{NodeRow}
 use Rattle.hc_signal.specs.declared.signal.Memory.{Memory}
 use Rattle.hc_signal.specs.declared.signal.Node.{Node}
 use Rattle.hc_signal.specs.declared.signal.Node.TheVariants.{Reg}
-use Rattle.hc_signal.specs.Graph.{Graph, mem, Reached}
+use Rattle.hc_signal.specs.Graph.{mem}
 use Rattle.hc_signal.specs.Tree.{leaf}
 use Rattle.hc_signal.specs.Occurrences.{Occurrence}
 use Rattle.hc_walk.proofs.Members.{has_map}
 use Rattle.hc_walk.proofs.InRange.{HasRow, reached_row}
 use Rattle.hc_paths.specs.Digraph.{AllDifferent}
-use Rattle.hc_bench.specs.Simulation.{State, next_value, next_register, next_memory, word_after, clock_edge, initial_register, reset}
-use Rattle.hc_bench.specs.Trace.{RunsCycle}
+use Rattle.hc_bench.specs.Simulation.{next_value, next_register, next_memory, word_after, clock_edge, initial_register, reset}
 use Rattle.hc_flatsim.specs.Updates.{updated}
-use Rattle.hc_flatsim.specs.Machine.{Machine, IsMachine, at_node, registers_among, state_of, simulation_of, number_of, number_at, numbers, words_at, words_of, widths, node_widths, memory_widths}
-use Rattle.hc_flatsim.specs.Settling.{operand, settled, given_of, valuation}
+use Rattle.hc_flatsim.specs.Machine.{Machine, IsMachine, at_node, registers_among, state_of, number_of, number_at, numbers, words_at, words_of, widths, memory_widths, valuation}
 use Rattle.hc_flatsim.specs.Edges.{places, memory_places, next_of_row, next_register_at, next_registers, next_of_memory, next_words_at, next_memories, initial_of, initial_of_row, initial_register_at, initial_registers}
 use Rattle.hc_flatsim.proofs.Changes.{updated_here}
 use Rattle.hc_flatsim.proofs.Shapes.{found}
-use Rattle.hc_flatsim.proofs.Held.{keys_differ, one_node, one_memory, has_among, order_differ, reg_row, words_found}
+use Rattle.hc_flatsim.proofs.Held.{keys_differ, one_node, one_memory, among_differ, order_differ, reg_row, words_found}
 use Rattle.hc_flatsim.proofs.Written.{words_written}
-use Rattle.hc_flatsim.proofs.Cycles.{outputs_are, settles}
 
 pub pairs_agree : {K X : Type 0} (h : Occurrence × X → Occurrence × X) (old new : K → Occurrence × X) (ids : List K) → ((id : K) → Has ids id → h (old id) ≡ new id) → map h (map old ids) ≡ map new ids
 pairs_agree h old new [] a = refl
@@ -58,19 +55,22 @@ module _ (m : Machine) (is : IsMachine m) where
   abbrev regs : List NodeId
   regs = registers_among m.graph m.order
 
-  -- registers that are changed at all places of the order
+  pub places_differ : AllDifferent (places m.clocked)
+  places_differ = subst (λ (l : List NodeId). AllDifferent (places l)) (sym is.clocked) (keys_differ (λ (i : NodeId). i.0) one_node regs (among_differ m.graph m.order (order_differ m is)))
+
+  -- registers that are changed at their places
   module _ (f : ℕ → BitVector → BitVector) (h : Occurrence × ℕ → Occurrence × ℕ)
       (a : (id : NodeId) → Has regs id → (x : BitVector) → slice_get m.registers id.0 ≡ Some x → h (at_node id.0, x.value) ≡ (at_node id.0, (f id.0 x).value)) where
-    one_changed : (id : NodeId) → Has regs id → h (pair m.registers id) ≡ pair (updated f (places m.order) m.registers) id
+    one_changed : (id : NodeId) → Has regs id → h (pair m.registers id) ≡ pair (updated f (places m.clocked) m.registers) id
     one_changed id c =
         let r = reg_row m is id c in
         let x : (x : BitVector) × (slice_get m.registers id.0 ≡ Some x) × (x.width ≡ r.0.width) = found (λ (b : BitVector). b.width) (λ (row : NodeRow). row.width) m.registers m.graph.nodes id.0 r.0 is.registers r.1 in
-        let new : slice_get (updated f (places m.order) m.registers) id.0 ≡ Some (f id.0 x.0) =
-        updated_here f (places m.order) id.0 m.registers x.0 (keys_differ (λ (i : NodeId). i.0) one_node m.order (order_differ m is)) (has_map (λ (i : NodeId). i.0) (has_among m.graph m.order id c).0) x.1 in
+        let new : slice_get (updated f (places m.clocked) m.registers) id.0 ≡ Some (f id.0 x.0) =
+        updated_here f (places m.clocked) id.0 m.registers x.0 places_differ (has_map (λ (i : NodeId). i.0) (subst (λ (l : List NodeId). Has l id) (sym is.clocked) c)) x.1 in
         ap (λ o. h (at_node id.0, number_of o)) x.1 ∙ a id c x.0 x.1 ∙ sym (ap (λ o. (at_node id.0, number_of o)) new)
 
-    changed : map h (map (pair m.registers) regs) ≡ map (pair (updated f (places m.order) m.registers)) regs
-    changed = pairs_agree h (pair m.registers) (pair (updated f (places m.order) m.registers)) regs one_changed
+    changed : map h (map (pair m.registers) regs) ≡ map (pair (updated f (places m.clocked) m.registers)) regs
+    changed = pairs_agree h (pair m.registers) (pair (updated f (places m.clocked) m.registers)) regs one_changed
 
   reset_one : (id : NodeId) → Has regs id → (x : BitVector) → slice_get m.registers id.0 ≡ Some x → initial_register (leaf m.graph) (at_node id.0, x.value) ≡ (at_node id.0, (initial_register_at m.graph id.0 x).value)
   reset_one id c x at =
@@ -78,7 +78,7 @@ module _ (m : Machine) (is : IsMachine m) where
       ap (λ (o : Option NodeRow). (at_node id.0, init_row o)) r.1 ∙ ap (λ (z : Node). (at_node id.0, init_node z)) r.2.4
       ∙ sym (ap (λ (o : Option NodeRow). (at_node id.0, (initial_of_row o x).value)) r.1 ∙ ap (λ (z : Node). (at_node id.0, (initial_of z x).value)) r.2.4)
 
-  pub reset_state : reset (leaf m.graph) (state_of m) ≡ state_of (record m { registers = initial_registers m.graph m.order m.registers })
+  pub reset_state : reset (leaf m.graph) (state_of m) ≡ state_of (record m { registers = initial_registers m.graph m.clocked m.registers })
   reset_state = ap (λ l. record { registers = l; memories = (state_of m).memories }) (changed (initial_register_at m.graph) (initial_register (leaf m.graph)) reset_one)
 
   next_one : (id : NodeId) → Has regs id → (x : BitVector) → slice_get m.registers id.0 ≡ Some x → next_register (leaf m.graph) (valuation m.values) (at_node id.0, x.value) ≡ (at_node id.0, (next_register_at m.graph m.values id.0 x).value)
@@ -100,47 +100,10 @@ module _ (m : Machine) (is : IsMachine m) where
       ∙ ap (λ (o : Option Memory). (at_node id.0, numbers (next_of_memory m.graph m.values o w.0))) row.1)
 
   abbrev pub edge_of : Machine
-  edge_of = record m { registers = next_registers m.graph m.values m.order m.registers; memories = next_memories m.graph m.values m.used m.memories }
+  edge_of = record m { registers = next_registers m.graph m.values m.clocked m.registers; memories = next_memories m.graph m.values m.used m.memories }
 
   pub edge_state : clock_edge (leaf m.graph) (valuation m.values) (state_of m) ≡ state_of edge_of
   edge_state =
       ap₂ (λ k l. record { registers = k; memories = l })
       (changed (next_register_at m.graph m.values) (next_register (leaf m.graph) (valuation m.values)) next_one)
       (pairs_agree (next_memory (leaf m.graph) (valuation m.values)) (words_pair m.memories) (words_pair (next_memories m.graph m.values m.used m.memories)) m.used memory_next)
-
--- ---- a whole cycle
-
-abbrev pub settle_of : Machine → Machine
-settle_of m = record m { values = settled m.graph (given_of m) m.order m.values }
-
-abbrev pub note_before_of : Machine → Machine
-note_before_of m = record m { before = map (operand m.graph m.values) m.graph.outputs }
-
-abbrev pub note_after_of : Machine → Machine
-note_after_of m = record m { after = map (operand m.graph m.values) m.graph.outputs }
-
-abbrev pub step_of : Machine → Machine
-step_of m = record m { registers = next_registers m.graph m.values m.order m.registers; memories = next_memories m.graph m.values m.used m.memories }
-
-chain : (m : Machine) → IsMachine m → IsMachine (note_before_of (settle_of m)) → IsMachine (step_of (note_before_of (settle_of m)))
-    → RunsCycle (simulation_of m) (simulation_of (note_after_of (settle_of (step_of (note_before_of (settle_of m))))))
-chain m is noted stepped = record {
-  cycle = record {
-    v = valuation (settle_of m).values;
-    w = valuation (settle_of (step_of (note_before_of (settle_of m)))).values;
-    settled = settles m is;
-    edge = sym (edge_state (note_before_of (settle_of m)) noted);
-    settled_again = settles (step_of (note_before_of (settle_of m))) stepped;
-    before_is = outputs_are m.graph (settle_of m).values m.graph.outputs;
-    after_is = outputs_are m.graph (settle_of (step_of (note_before_of (settle_of m)))).values m.graph.outputs;
-  };
-  tree = refl;
-  inputs = refl;
-}
-
-pub runs_cycle : (m a b c d e : Machine) → IsMachine m → IsMachine b → IsMachine c → a ≡ settle_of m → b ≡ note_before_of a → c ≡ step_of b → d ≡ settle_of c → e ≡ note_after_of d → RunsCycle (simulation_of m) (simulation_of e)
-runs_cycle m a b c d e is noted stepped p q r s t =
-    let b_is : b ≡ note_before_of (settle_of m) = q ∙ ap note_before_of p in
-    let c_is : c ≡ step_of (note_before_of (settle_of m)) = r ∙ ap step_of b_is in
-    let e_is : e ≡ note_after_of (settle_of (step_of (note_before_of (settle_of m)))) = t ∙ ap note_after_of (s ∙ ap settle_of c_is) in
-    subst (λ (z : Machine). RunsCycle (simulation_of m) (simulation_of z)) (sym e_is) (chain m is (subst IsMachine b_is noted) (subst IsMachine c_is stepped))

@@ -1,5 +1,5 @@
 -- The words of a memory after the clock edge.
-use Rattle.std.proofs.Common.{◌≡◌, ℕ, zero, suc, ◌+◌, ◌<◌, ◌≤◌, ◌⊎◌, inl, inr, List, [], ◌∷◌, map, length, refl, sym, subst, ◌∙◌, ap, ap₂, arith, Bool, true, false}
+use Rattle.std.proofs.Common.{◌≡◌, ℕ, zero, suc, ◌+◌, ◌<◌, ◌⊎◌, inl, inr, List, [], ◌∷◌, map, refl, sym, ◌∙◌, ap, ap₂, arith, Bool, true, false}
 use Rattle.std.specs.Prelude.{◌≢◌, ◌==◌, ◌&&◌, if◌then◌else◌, slice_set}
 use Rattle.std.specs.List.{enumerate_from}
 use Rattle.std.proofs.lemmas.Bool.{eq-eqb}
@@ -9,8 +9,8 @@ use Rattle.hc_bits.specs.BitVector.{BitVector}
 use Rattle.hc_signal.specs.declared.signal.WritePort.{WritePort}
 use Rattle.hc_signal.specs.Graph.{Graph}
 use Rattle.hc_bench.specs.Simulation.{word_after}
-use Rattle.hc_flatsim.specs.Machine.{number_at, numbers}
-use Rattle.hc_flatsim.specs.Settling.{operand, valuation}
+use Rattle.hc_flatsim.specs.Machine.{number_at, numbers, valuation}
+use Rattle.hc_flatsim.specs.Settling.{operand}
 use Rattle.hc_flatsim.specs.Edges.{written, written_all}
 
 differ : (a k : ℕ) → (a ≡ k → ⊥) → eqb a k ≡ false

@@ -1,5 +1,5 @@
 -- What a clock edge and a reset make of registers and memories.
-use Rattle.std.specs.Prelude.{◌≡◌, ℕ, ◌==◌, ◌&&◌, if◌then◌else◌, List, [], ◌∷◌, map, slice_get, slice_set, Option, Some, None}
+use Rattle.std.specs.Prelude.{ℕ, ◌==◌, if◌then◌else◌, List, [], ◌∷◌, map, slice_get, slice_set, Option, Some, None}
 use Rattle.hc_bits.specs.BitVector.{BitVector}
 use Rattle.hc_signal.specs.declared.signal.NodeId.{NodeId}
 use Rattle.hc_signal.specs.declared.signal.MemId.{MemId}
@@ -10,8 +10,8 @@ use Rattle.hc_signal.specs.declared.signal.Node.{Node}
 use Rattle.hc_signal.specs.declared.signal.Node.TheVariants.{Reg}
 use Rattle.hc_signal.specs.Graph.{Graph}
 use Rattle.hc_bench.specs.Simulation.{next_value}
-use Rattle.hc_flatsim.specs.Machine.{number_at}
-use Rattle.hc_flatsim.specs.Settling.{valuation, operand}
+use Rattle.hc_flatsim.specs.Machine.{number_at, valuation}
+use Rattle.hc_flatsim.specs.Settling.{operand}
 use Rattle.hc_flatsim.specs.Updates.{updated}
 
 abbrev pub places : List NodeId → List ℕ
@@ -31,7 +31,7 @@ abbrev pub next_register_at : Graph → List BitVector → ℕ → BitVector →
 next_register_at g values n old = next_of_row values (slice_get g.nodes n) old
 
 abbrev pub next_registers : Graph → List BitVector → List NodeId → List BitVector → List BitVector
-next_registers g values order registers = updated (next_register_at g values) (places order) registers
+next_registers g values ids registers = updated (next_register_at g values) (places ids) registers
 
 abbrev pub initial_of : Node → BitVector → BitVector
 initial_of (Reg next enable clear init) old = init
@@ -46,7 +46,7 @@ abbrev pub initial_register_at : Graph → ℕ → BitVector → BitVector
 initial_register_at g n old = initial_of_row (slice_get g.nodes n) old
 
 abbrev pub initial_registers : Graph → List NodeId → List BitVector → List BitVector
-initial_registers g order registers = updated (initial_register_at g) (places order) registers
+initial_registers g ids registers = updated (initial_register_at g) (places ids) registers
 
 -- ---- memories
 

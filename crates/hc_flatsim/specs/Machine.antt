@@ -1,5 +1,5 @@
 -- What a flat simulator holds, and the simulation that it stands for.
-use Rattle.std.specs.Prelude.{◌≡◌, ◌≤◌, ℕ, Bool, true, false, if◌then◌else◌, List, [], ◌∷◌, map, length, replicate, slice_get, Option, Some, None, ◌↔◌}
+use Rattle.std.specs.Prelude.{◌≡◌, ℕ, Bool, true, false, if◌then◌else◌, List, [], ◌∷◌, map, replicate, slice_get, Option, Some, None, ◌↔◌}
 use Rattle.hc_bits.specs.BitVector.{BitVector}
 use Rattle.hc_signal.specs.Member.{Has}
 use Rattle.hc_signal.specs.declared.signal.NodeId.{NodeId}
@@ -13,17 +13,21 @@ use Rattle.hc_signal.specs.Graph.{Graph, mem, Reached}
 use Rattle.hc_signal.specs.Lawful.{IsLawful}
 use Rattle.hc_signal.specs.Checked.{IsChecked}
 use Rattle.hc_signal.specs.Occurrences.{Occurrence, HasCombLoop}
-use Rattle.hc_signal.specs.Tree.{leaf}
+use Rattle.hc_signal.specs.Tree.{Tree, leaf}
 use Rattle.hc_paths.specs.Digraph.{AllDifferent}
 use Rattle.hc_paths.specs.Schedule.{IsSchedule}
-use Rattle.hc_bench.specs.Simulation.{State}
+use Rattle.hc_bench.specs.Simulation.{State, IsSettled, clock_edge}
 use Rattle.hc_bench.specs.Trace.{Simulation}
+use Rattle.hc_flatsim.specs.declared.known.Known.{Known}
+use Rattle.hc_flatsim.specs.declared.known.Known.TheVariants.{Nothing, Settled, Rest}
 
--- A circuit, an order of its reached nodes, its reached memories, a value and a register value for each node, the words
--- of each memory, the inputs, and the outputs before and after the last clock edge.
+-- A circuit, an order of its reached nodes, the registers among them, its reached memories, a value and a register value
+-- for each node, the words of each memory, the inputs, the outputs before and after the last clock edge, and what is known
+-- of the values.
 pub record Machine : Type 0 where
   pub graph : Graph
   pub order : List NodeId
+  pub clocked : List NodeId
   pub used : List MemId
   pub values : List BitVector
   pub registers : List BitVector
@@ -31,6 +35,7 @@ pub record Machine : Type 0 where
   pub inputs : List BitVector
   pub before : List BitVector
   pub after : List BitVector
+  pub known : Known
 
 abbrev pub widths : List BitVector → List ℕ
 widths xs = map (λ (x : BitVector). x.width) xs
@@ -54,6 +59,10 @@ number_of (Some x) = x.value
 
 abbrev pub number_at : List BitVector → ℕ → ℕ
 number_at xs place = number_of (slice_get xs place)
+
+-- the values as those of occurrences
+abbrev pub valuation : List BitVector → Occurrence → ℕ
+valuation values s = number_at values s.node
 
 -- the words at a place, none past the end
 abbrev pub words_of : Option (List BitVector) → List BitVector
@@ -115,11 +124,26 @@ pub record IsFlatCircuit (g : Graph) : Type 0 where
   pub no_loop : ¬ HasCombLoop (leaf g)
   pub no_ops : HasNoOps g
 
--- Each list has the widths of what it stands for.
+-- What is known holds: at rest the values v are settled and a clock edge leaves the state as it is.
+abbrev pub IsKnown : Known → Tree → State → List ℕ → (Occurrence → ℕ) → Type 0
+IsKnown Nothing t state inputs v = Unit {0}
+IsKnown Settled t state inputs v = IsSettled t state inputs v
+IsKnown Rest t state inputs v = IsSettled t state inputs v × (clock_edge t v state ≡ state)
+
+-- the values are settled
+abbrev pub AreSettled : Machine → Type 0
+AreSettled m = IsSettled (leaf m.graph) (state_of m) (numbers m.inputs) (valuation m.values)
+
+-- a clock edge leaves the state as it is
+abbrev pub IsAtRest : Machine → Type 0
+IsAtRest m = clock_edge (leaf m.graph) (valuation m.values) (state_of m) ≡ state_of m
+
+-- Each list has the widths of what it stands for, and what is known holds.
 pub record IsMachine (m : Machine) : Type 0 where
   pub lawful : IsLawful m.graph
   pub flat : IsFlatCircuit m.graph
   pub schedule : IsSchedule m.graph m.order
+  pub clocked : m.clocked ≡ registers_among m.graph m.order
   pub used : (id : MemId) → Has m.used id ↔ Reached m.graph (mem id.0)
   pub used_once : AllDifferent m.used
   pub values : widths m.values ≡ node_widths m.graph.nodes
@@ -128,3 +152,4 @@ pub record IsMachine (m : Machine) : Type 0 where
   pub inputs : widths m.inputs ≡ port_widths m.graph.ports.inputs
   pub before : widths m.before ≡ port_widths m.graph.ports.outputs
   pub after : widths m.after ≡ port_widths m.graph.ports.outputs
+  pub known : IsKnown m.known (leaf m.graph) (state_of m) (numbers m.inputs) (valuation m.values)

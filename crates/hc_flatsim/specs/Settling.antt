@@ -9,14 +9,9 @@ use Rattle.hc_signal.specs.declared.signal.NodeRow.{NodeRow}
 use Rattle.hc_signal.specs.declared.signal.Node.{Node}
 use Rattle.hc_signal.specs.declared.signal.Node.TheVariants.{Reg, Read}
 use Rattle.hc_signal.specs.Graph.{Graph}
-use Rattle.hc_signal.specs.Occurrences.{Occurrence}
 use Rattle.hc_signal.specs.Tree.{leaf}
 use Rattle.hc_bench.specs.Simulation.{State, value, vector_at}
-use Rattle.hc_flatsim.specs.Machine.{number_at, numbers, words_at, widths, node_widths, port_widths, memory_widths, IsFlatCircuit, Machine}
-
--- the values as those of occurrences
-abbrev pub valuation : List BitVector → Occurrence → ℕ
-valuation values s = number_at values s.node
+use Rattle.hc_flatsim.specs.Machine.{number_at, numbers, valuation, words_at, widths, node_widths, port_widths, memory_widths, IsFlatCircuit, Machine}
 
 -- an operand with its width
 abbrev pub operand : Graph → List BitVector → NodeId → BitVector

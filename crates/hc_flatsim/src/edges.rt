@@ -1,11 +1,10 @@
 //! Clock edges and resets.
-ghost use Rattle.std.specs.Prelude.{◌≡◌, ◌<◌, ◌==◌, [], length, map, slice_get, Some};
+ghost use Rattle.std.specs.Prelude.{◌≡◌, ◌<◌, ◌==◌, [], false, length, map, slice_get, slice_set, Some};
 ghost use Rattle.hc_bits.specs.BitVector.{BitVector};
 ghost use Rattle.hc_bench.specs.Simulation.{cleared, is_enabled, next_value};
 ghost use Rattle.hc_signal.specs.Lawful.{IsLawfulMemory, IsLawfulNode, IsLawfulWrite, MayClear, MayHaveWidth};
 ghost use Rattle.hc_flatsim.specs.Edges.{initial_of, initial_register_at, initial_registers, next_memories, next_of_row, next_register_at, next_registers, next_words_at, places, written, written_all};
-ghost use Rattle.hc_flatsim.specs.Machine.{memory_widths, node_widths, number_at, widths};
-ghost use Rattle.hc_flatsim.specs.Settling.{valuation};
+ghost use Rattle.hc_flatsim.specs.Machine.{memory_widths, node_widths, number_at, valuation, widths};
 ghost use Rattle.hc_flatsim.specs.Updates.{replaced};
 
 use crate::operands::operand;
@@ -76,30 +75,54 @@ fn next_of(circuit: &Circuit, values: &[Bits], row: &NodeRow, old: Bits) -> Bits
     }
 }
 
-/// Steps the register of one node.
-fn step_register(circuit: &Circuit, values: &[Bits], registers: &mut [Bits], id: NodeId)
+/// Replaces the value at a place, and tells whether it was another.
+fn replace(values: &mut [Bits], place: usize, value: Bits) -> bool
+    requires { place < length values.old }
+    ensures value { values.new ≡ slice_set values.old place value }
+    ensures told { result ≡ false → values.new ≡ values.old }
+{
+    let changed = values[place] != value;
+    values[place] = value;
+    changed
+}
+
+/// Steps the register of one node, and tells whether it changed.
+fn step_register(circuit: &Circuit, values: &[Bits], registers: &mut [Bits], id: NodeId) -> bool
     requires values { widths values.now ≡ node_widths circuit.now.nodes }
     requires registers { widths registers.old ≡ node_widths circuit.now.nodes }
     ensures value { registers.new ≡ replaced (next_register_at circuit.now values.now id.0) id.0 registers.old }
     ensures widths { widths registers.new ≡ node_widths circuit.now.nodes }
+    ensures told { result ≡ false → registers.new ≡ registers.old }
 {
     circuit.lawful();
     if let Some(row) = circuit.nodes().get(id.0 as usize) {
         let next = next_of(circuit, values, row, registers[id.0 as usize]);
-        registers[id.0 as usize] = next;
+        replace(registers, id.0 as usize, next)
+    } else {
+        false
     }
 }
 
-/// Steps the registers of these nodes.
-pub fn step_registers(circuit: &Circuit, order: &[NodeId], values: &[Bits], registers: &mut [Bits])
+/// Steps the registers of these nodes, and tells whether one of them changed.
+pub fn step_registers(
+    circuit: &Circuit,
+    clocked: &[NodeId],
+    values: &[Bits],
+    registers: &mut [Bits],
+) -> bool
     requires values { widths values.now ≡ node_widths circuit.now.nodes }
     requires registers { widths registers.old ≡ node_widths circuit.now.nodes }
-    ensures value { registers.new ≡ next_registers circuit.now values.now order.now registers.old }
+    ensures value { registers.new ≡ next_registers circuit.now values.now clocked.now registers.old }
     ensures widths { widths registers.new ≡ node_widths circuit.now.nodes }
+    ensures told { result ≡ false → registers.new ≡ registers.old }
 {
-    'order: for id in order {
-        step_register(circuit, values, registers, *id);
+    let mut changed = false;
+    'clocked: for id in clocked {
+        if step_register(circuit, values, registers, *id) {
+            changed = true;
+        }
     }
+    changed
 }
 
 /// The initial value of a register, and the old one for other nodes.
@@ -126,63 +149,84 @@ fn reset_register(circuit: &Circuit, registers: &mut [Bits], id: NodeId)
 }
 
 /// Puts the registers of these nodes to their initial values.
-pub fn reset_registers(circuit: &Circuit, order: &[NodeId], registers: &mut [Bits])
+pub fn reset_registers(circuit: &Circuit, clocked: &[NodeId], registers: &mut [Bits])
     requires registers { widths registers.old ≡ node_widths circuit.now.nodes }
-    ensures value { registers.new ≡ initial_registers circuit.now order.now registers.old }
+    ensures value { registers.new ≡ initial_registers circuit.now clocked.now registers.old }
     ensures widths { widths registers.new ≡ node_widths circuit.now.nodes }
 {
-    'order: for id in order {
+    'clocked: for id in clocked {
         reset_register(circuit, registers, *id);
     }
 }
 
-/// Takes one write port.
-fn write(circuit: &Circuit, values: &[Bits], port: &WritePort, words: &mut Words)
+/// Takes one write port, and tells whether a word changed.
+fn write(circuit: &Circuit, values: &[Bits], port: &WritePort, words: &mut Words) -> bool
     requires values { widths values.now ≡ node_widths circuit.now.nodes }
     requires enable { port.now.enable.0 < length circuit.now.nodes }
     requires addr { port.now.addr.0 < length circuit.now.nodes }
     requires value { port.now.value.0 < length circuit.now.nodes }
-    ensures { words.new ≡ written circuit.now values.now port.now words.old }
+    ensures value { words.new ≡ written circuit.now values.now port.now words.old }
+    ensures told { result ≡ false → words.new ≡ words.old }
 {
     if is_one(circuit, values, port.enable) {
         let place = operand(circuit, values, port.addr).value();
-        words.write(place, operand(circuit, values, port.value));
+        words.write(place, operand(circuit, values, port.value))
+    } else {
+        false
     }
 }
 
-/// Takes the write ports of a memory, in order.
-fn write_all(circuit: &Circuit, values: &[Bits], memory: &Memory, words: &mut Words)
+/// Takes the write ports of a memory, in order, and tells whether a word changed.
+fn write_all(circuit: &Circuit, values: &[Bits], memory: &Memory, words: &mut Words) -> bool
     requires values { widths values.now ≡ node_widths circuit.now.nodes }
     requires lawful { IsLawfulMemory circuit.now memory.now }
-    ensures { words.new ≡ written_all circuit.now values.now memory.now.writes words.old }
+    ensures value { words.new ≡ written_all circuit.now values.now memory.now.writes words.old }
+    ensures told { result ≡ false → words.new ≡ words.old }
 {
     let ports = memory.writes.as_slice();
+    let mut changed = false;
     'ports: for port in ports {
-        write(circuit, values, port, words);
+        if write(circuit, values, port, words) {
+            changed = true;
+        }
     }
+    changed
 }
 
-/// Steps one memory.
-fn step_memory(circuit: &Circuit, values: &[Bits], memories: &mut [Words], id: MemId)
+/// Steps one memory, and tells whether a word changed.
+fn step_memory(circuit: &Circuit, values: &[Bits], memories: &mut [Words], id: MemId) -> bool
     requires values { widths values.now ≡ node_widths circuit.now.nodes }
     requires memories { map widths memories.old ≡ map memory_widths circuit.now.memories }
     ensures value { memories.new ≡ replaced (next_words_at circuit.now values.now id.0) id.0 memories.old }
     ensures widths { map widths memories.new ≡ map memory_widths circuit.now.memories }
+    ensures told { result ≡ false → memories.new ≡ memories.old }
 {
     circuit.lawful();
     if let Some(memory) = circuit.memories().get(id.0 as usize) {
-        write_all(circuit, values, memory, &mut memories[id.0 as usize]);
+        write_all(circuit, values, memory, &mut memories[id.0 as usize])
+    } else {
+        false
     }
 }
 
-/// Steps these memories.
-pub fn step_memories(circuit: &Circuit, used: &[MemId], values: &[Bits], memories: &mut [Words])
+/// Steps these memories, and tells whether a word changed.
+pub fn step_memories(
+    circuit: &Circuit,
+    used: &[MemId],
+    values: &[Bits],
+    memories: &mut [Words],
+) -> bool
     requires values { widths values.now ≡ node_widths circuit.now.nodes }
     requires memories { map widths memories.old ≡ map memory_widths circuit.now.memories }
     ensures value { memories.new ≡ next_memories circuit.now values.now used.now memories.old }
     ensures widths { map widths memories.new ≡ map memory_widths circuit.now.memories }
+    ensures told { result ≡ false → memories.new ≡ memories.old }
 {
+    let mut changed = false;
     'used: for id in used {
-        step_memory(circuit, values, memories, *id);
+        if step_memory(circuit, values, memories, *id) {
+            changed = true;
+        }
     }
+    changed
 }

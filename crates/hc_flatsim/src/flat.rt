@@ -1,4 +1,4 @@
-ghost use Rattle.std.specs.Prelude.{◌≡◌, ◌<◌, [], length, map, slice_get, slice_index, slice_set, IfOk, Some};
+ghost use Rattle.std.specs.Prelude.{◌≡◌, ◌<◌, [], true, false, length, map, slice_get, slice_index, slice_set, IfOk, Some};
 ghost use Rattle.hc_bench.specs.Simulation as simulation;
 ghost use Rattle.hc_bench.specs.Steps.{IsPortValue};
 ghost use Rattle.hc_bench.specs.Trace.{IsAtStart};
@@ -6,13 +6,17 @@ ghost use Rattle.hc_signal.specs.Checked.{IsChecked};
 ghost use Rattle.hc_signal.specs.Occurrences.{HasCombLoop};
 ghost use Rattle.hc_signal.specs.Tree.{graph, leaf};
 ghost use Rattle.hc_signal.specs.declared.signal.Port.{Port};
+ghost use Rattle.hc_flatsim.specs.declared.known.Known.TheVariants.{Nothing};
 ghost use Rattle.hc_flatsim.specs.Edges.{initial_registers, next_memories, next_registers};
-ghost use Rattle.hc_flatsim.specs.Machine.{simulation_of, HasNoOps, IsMachine};
+ghost use Rattle.hc_flatsim.specs.Machine.{numbers, simulation_of, state_of, valuation, AreSettled, HasNoOps, IsKnown, IsMachine};
 ghost use Rattle.hc_flatsim.specs.Settling.{given_of, operand, settled};
 
 use crate::edges::{reset_registers, step_memories, step_registers};
+use crate::inputs::{is_input, set_input};
+use crate::known::Known;
 use crate::make::{
-    initial_registers, used_memories, zeros_of_memories, zeros_of_nodes, zeros_of_ports,
+    initial_registers, registers_among, used_memories, zeros_of_memories, zeros_of_nodes,
+    zeros_of_ports,
 };
 use crate::settle::{note, settle};
 use crate::words::Words;
@@ -30,6 +34,8 @@ pub struct FlatSim<'a> {
     circuit: &'a Circuit,
     // the nodes that the outputs reach, each after those that it is computed from
     order: Vec<NodeId>,
+    // the registers among them
+    clocked: Vec<NodeId>,
     // the memories that the outputs reach
     used: Vec<MemId>,
     values: Vec<Bits>,
@@ -39,6 +45,7 @@ pub struct FlatSim<'a> {
     inputs: Vec<Bits>,
     before: Vec<Bits>,
     after: Vec<Bits>,
+    known: Known,
 }
 
 impl<'a> Model for FlatSim<'a> {
@@ -46,9 +53,9 @@ impl<'a> Model for FlatSim<'a> {
 
     ghost Value = { Machine };
 
-    ghost view = { λ s. record { graph = s.circuit.now; order = s.order.items; used = s.used.items; values = s.values.items; registers = s.registers.items; memories = s.memories.items; inputs = s.inputs.items; before = s.before.items; after = s.after.items } };
+    ghost view = { λ s. record { graph = s.circuit.now; order = s.order.items; clocked = s.clocked.items; used = s.used.items; values = s.values.items; registers = s.registers.items; memories = s.memories.items; inputs = s.inputs.items; before = s.before.items; after = s.after.items; known = s.known } };
 
-    ghost invariant = { λ s. IsMachine (record { graph = s.circuit.now; order = s.order.items; used = s.used.items; values = s.values.items; registers = s.registers.items; memories = s.memories.items; inputs = s.inputs.items; before = s.before.items; after = s.after.items }) };
+    ghost invariant = { λ s. IsMachine (record { graph = s.circuit.now; order = s.order.items; clocked = s.clocked.items; used = s.used.items; values = s.values.items; registers = s.registers.items; memories = s.memories.items; inputs = s.inputs.items; before = s.before.items; after = s.after.items; known = s.known }) };
 }
 
 impl<'a> FlatSim<'a> {
@@ -66,9 +73,10 @@ impl<'a> FlatSim<'a> {
             Ok(order) => order,
             Err(_) => return Err(NoMemory),
         };
+        let clocked = registers_among(alloc, circuit, order.as_slice())?;
         let used = used_memories(alloc, circuit)?;
         let values = zeros_of_nodes(alloc, circuit)?;
-        let registers = initial_registers(alloc, circuit, order.as_slice())?;
+        let registers = initial_registers(alloc, circuit, clocked.as_slice())?;
         let memories = zeros_of_memories(alloc, circuit)?;
         let ports = circuit.ports();
         let inputs = zeros_of_ports(alloc, ports.inputs.as_slice())?;
@@ -77,6 +85,7 @@ impl<'a> FlatSim<'a> {
         Ok(FlatSim {
             circuit,
             order,
+            clocked,
             used,
             values,
             registers,
@@ -84,13 +93,30 @@ impl<'a> FlatSim<'a> {
             inputs,
             before,
             after,
+            known: Known::Nothing,
         })
     }
 
-    /// The values settle.
-    fn settle(&mut self)
-        ensures { self.new ≡ record self.old { values = settled self.old.graph (given_of self.old) self.old.order self.old.values } }
+    /// What is known of the values.
+    fn known(&self) -> Known
+        ensures { result ≡ self.now.known }
     {
+        self.known
+    }
+
+    /// Notes what is known of the values.
+    fn know(&mut self, known: Known)
+        requires { IsKnown known (leaf self.old.graph) (state_of self.old) (numbers self.old.inputs) (valuation self.old.values) }
+        ensures { self.new ≡ record self.old { known = known } }
+    {
+        self.known = known;
+    }
+
+    /// Computes the values.
+    fn compute(&mut self)
+        ensures { self.new ≡ record self.old { values = settled self.old.graph (given_of self.old) self.old.order self.old.values; known = Nothing } }
+    {
+        self.known = Known::Nothing;
         settle(
             self.circuit,
             self.order.as_slice(),
@@ -99,6 +125,21 @@ impl<'a> FlatSim<'a> {
             self.inputs.as_slice(),
             self.values.as_mut_slice(),
         );
+    }
+
+    /// The values settle, where they are not known to be settled.
+    fn settle(&mut self)
+        ensures same { simulation_of self.new ≡ simulation_of self.old }
+        ensures settled { AreSettled self.new }
+    {
+        self.machine();
+        match self.known() {
+            Known::Nothing => {
+                self.compute();
+                self.know(Known::Settled);
+            }
+            Known::Settled | Known::Rest => {}
+        }
     }
 
     /// Notes the outputs as those before the edge.
@@ -123,22 +164,45 @@ impl<'a> FlatSim<'a> {
         );
     }
 
-    /// The clock edge: registers and memories take what the values give.
-    fn edge(&mut self)
-        ensures { self.new ≡ record self.old { registers = next_registers self.old.graph self.old.values self.old.order self.old.registers; memories = next_memories self.old.graph self.old.values self.old.used self.old.memories } }
+    /// Registers and memories take what the values give. Tells whether a register or a word
+    /// changed.
+    fn step(&mut self) -> bool
+        ensures value { self.new ≡ record self.old { registers = next_registers self.old.graph self.old.values self.old.clocked self.old.registers; memories = next_memories self.old.graph self.old.values self.old.used self.old.memories; known = Nothing } }
+        ensures told_registers { result ≡ false → self.new.registers ≡ self.old.registers }
+        ensures told_memories { result ≡ false → self.new.memories ≡ self.old.memories }
     {
-        step_registers(
+        let registers = step_registers(
             self.circuit,
-            self.order.as_slice(),
+            self.clocked.as_slice(),
             self.values.as_slice(),
             self.registers.as_mut_slice(),
         );
-        step_memories(
+        let words = step_memories(
             self.circuit,
             self.used.as_slice(),
             self.values.as_slice(),
             self.memories.as_mut_slice(),
         );
+        self.known = Known::Nothing;
+        registers || words
+    }
+
+    /// The clock edge.
+    fn edge(&mut self)
+        ensures { simulation_of self.new ≡ record (simulation_of self.old) { state = simulation.clock_edge (leaf self.old.graph) (valuation self.old.values) (state_of self.old) } }
+    {
+        self.machine();
+        match self.known() {
+            Known::Nothing => {
+                self.step();
+            }
+            Known::Settled => {
+                if !self.step() {
+                    self.know(Known::Rest);
+                }
+            }
+            Known::Rest => {}
+        }
     }
 
     /// Each simulator keeps this.
@@ -148,23 +212,33 @@ impl<'a> FlatSim<'a> {
         let _ = &self.order;
     }
 
+    /// Whether an input has this value.
+    fn holds(&self, port: u32, value: Bits) -> bool
+        requires { IsPortValue self.now.graph.ports.inputs port value }
+        ensures { result ≡ true → slice_set self.now.inputs port value ≡ self.now.inputs }
+    {
+        is_input(self.circuit, self.inputs.as_slice(), port, value)
+    }
+
     /// Sets an input.
     fn put(&mut self, port: u32, value: Bits)
         requires { IsPortValue self.old.graph.ports.inputs port value }
-        ensures { self.new ≡ record self.old { inputs = slice_set self.old.inputs port value } }
+        ensures { self.new ≡ record self.old { inputs = slice_set self.old.inputs port value; known = Nothing } }
     {
-        self.inputs[port as usize] = value;
+        self.known = Known::Nothing;
+        set_input(self.circuit, self.inputs.as_mut_slice(), port, value);
     }
 
     /// Puts each register to its initial value.
     fn restart(&mut self)
-        ensures { self.new ≡ record self.old { registers = initial_registers self.old.graph self.old.order self.old.registers } }
+        ensures { self.new ≡ record self.old { registers = initial_registers self.old.graph self.old.clocked self.old.registers; known = Nothing } }
     {
         reset_registers(
             self.circuit,
-            self.order.as_slice(),
+            self.clocked.as_slice(),
             self.registers.as_mut_slice(),
         );
+        self.known = Known::Nothing;
     }
 }
 
@@ -176,16 +250,15 @@ impl<'a> Sim for FlatSim<'a> {
     }
 
     fn set(&mut self, port: u32, value: Bits) {
-        self.put(port, value);
+        if !self.holds(port, value) {
+            self.put(port, value);
+        }
     }
 
     fn cycle(&mut self) {
-        self.machine();
         self.settle();
         self.note_before();
-        self.machine();
         self.edge();
-        self.machine();
         self.settle();
         self.note_after();
     }

@@ -4,6 +4,8 @@
 mod compute;
 mod edges;
 mod flat;
+mod inputs;
+mod known;
 mod make;
 mod operands;
 mod ops;

@@ -1,5 +1,5 @@
 //! The parts of a new simulator.
-ghost use Rattle.std.specs.Prelude.{◌≡◌, ◌↔◌, ◌≤◌, map, replicate, IfOk};
+ghost use Rattle.std.specs.Prelude.{◌≡◌, ◌↔◌, ◌≤◌, map, replicate, slice_get, IfOk};
 ghost use Rattle.hc_bits.specs.BitVector.{BitVector, IsWidth};
 ghost use Rattle.hc_signal.specs.Graph.{mem, Reached};
 ghost use Rattle.hc_signal.specs.Lawful.{IsLawful};
@@ -10,14 +10,14 @@ ghost use Rattle.hc_signal.specs.declared.signal.NodeRow.{NodeRow};
 ghost use Rattle.hc_signal.specs.declared.signal.Port.{Port};
 ghost use Rattle.hc_paths.specs.Digraph.{AllDifferent};
 ghost use Rattle.hc_flatsim.specs.Edges.{initial_registers};
-ghost use Rattle.hc_flatsim.specs.Machine.{node_widths, widths};
+ghost use Rattle.hc_flatsim.specs.Machine.{is_register_row, node_widths, registers_among, widths};
 ghost use Rattle.hc_flatsim.specs.Starting.{memories_among, zero_of, zeros_of_memory};
 
 use crate::edges::reset_registers;
 use crate::words::{Words, zero};
 use hc_bits::Bits;
 use hc_fault::NoMemory;
-use hc_signal::{Circuit, MemId, Memory, NodeId, NodeRow, Port};
+use hc_signal::{Circuit, MemId, Memory, Node, NodeId, NodeRow, Port};
 use hc_walk::{VertexId, walk};
 use std::alloc::Global;
 
@@ -43,6 +43,33 @@ pub fn used_memories(alloc: Global, circuit: &Circuit) -> Result<Vec<MemId>, NoM
     memories_among(alloc, met.as_slice())
 }
 
+/// Whether a node is a register.
+fn is_register(circuit: &Circuit, id: NodeId) -> bool
+    ensures { result ≡ is_register_row (slice_get circuit.now.nodes id.0) }
+{
+    match circuit.nodes().get(id.0 as usize) {
+        Some(row) => matches!(row.node, Node::Reg { .. }),
+        None => false,
+    }
+}
+
+/// The registers among these nodes, in their order.
+pub fn registers_among(
+    alloc: Global,
+    circuit: &Circuit,
+    order: &[NodeId],
+) -> Result<Vec<NodeId>, NoMemory>
+    ensures { IfOk result (λ ids. ids.items ≡ registers_among circuit.now order.now) }
+{
+    let mut ids = Vec::new(alloc);
+    'order: for id in order {
+        if is_register(circuit, *id) {
+            ids.push(*id)?;
+        }
+    }
+    Ok(ids)
+}
+
 /// 0 for each node, in its width.
 pub fn zeros_of_nodes(alloc: Global, circuit: &Circuit) -> Result<Vec<Bits>, NoMemory>
     ensures { IfOk result (λ values. values.items ≡ map (λ (row : NodeRow). zero_of row.width) circuit.now.nodes) }
@@ -60,13 +87,13 @@ pub fn zeros_of_nodes(alloc: Global, circuit: &Circuit) -> Result<Vec<Bits>, NoM
 pub fn initial_registers(
     alloc: Global,
     circuit: &Circuit,
-    order: &[NodeId],
+    clocked: &[NodeId],
 ) -> Result<Vec<Bits>, NoMemory>
-    ensures value { IfOk result (λ registers. registers.items ≡ initial_registers circuit.now order.now (map (λ (row : NodeRow). zero_of row.width) circuit.now.nodes)) }
+    ensures value { IfOk result (λ registers. registers.items ≡ initial_registers circuit.now clocked.now (map (λ (row : NodeRow). zero_of row.width) circuit.now.nodes)) }
     ensures widths { IfOk result (λ registers. widths registers.items ≡ node_widths circuit.now.nodes) }
 {
     let mut registers = zeros_of_nodes(alloc, circuit)?;
-    reset_registers(circuit, order, registers.as_mut_slice());
+    reset_registers(circuit, clocked, registers.as_mut_slice());
     Ok(registers)
 }
 

@@ -1,4 +1,4 @@
-ghost use Rattle.std.specs.Prelude.{◌≡◌, replicate, slice_get, slice_set, IfOk};
+ghost use Rattle.std.specs.Prelude.{◌≡◌, false, replicate, slice_get, slice_set, IfOk};
 ghost use Rattle.hc_bits.specs.BitVector.{BitVector, IsWidth};
 
 use hc_bits::Bits;
@@ -53,13 +53,19 @@ impl Words {
         }
     }
 
-    /// Replaces the word at a place. Nothing changes past the end.
+    /// Replaces the word at a place, and tells whether it was another. Nothing changes past the
+    /// end.
     #[tactic(auto, using(std::proofs::lemmas::List::set_past))]
-    pub fn write(&mut self, place: u128, word: Bits)
-        ensures { self.new ≡ slice_set self.old place word }
+    pub fn write(&mut self, place: u128, word: Bits) -> bool
+        ensures value { self.new ≡ slice_set self.old place word }
+        ensures told { result ≡ false → self.new ≡ self.old }
     {
         if place < self.words.len() as u128 {
+            let changed = self.words[place as usize] != word;
             self.words[place as usize] = word;
+            changed
+        } else {
+            false
         }
     }
 }

@@ -1,4 +1,4 @@
-use Rattle.std.proofs.Common.{◌≡◌, drop, map}
+use Rattle.std.proofs.Common.{◌≡◌, false, drop, map}
 use Rattle.hc_flatsim.specs.Edges.{next_memories}
 use Rattle.hc_flatsim.specs.Machine.{memory_widths, widths}
 use Rattle.hc_flatsim.proofs.edges.step_memories.Given as goal
@@ -7,3 +7,4 @@ abbrev pub invariant-used : goal.invariant-used
 invariant-used l =
     (next_memories l.circuit l.values (drop l.id-index l.used) l.memories ≡ next_memories l.circuit l.values l.used l.initial.memories)
     × (map widths l.memories ≡ map memory_widths l.circuit.memories)
+    × (l.changed ≡ false → l.memories ≡ l.initial.memories)

@@ -1,9 +1,10 @@
-use Rattle.std.proofs.Common.{◌≡◌, drop}
+use Rattle.std.proofs.Common.{◌≡◌, false, drop}
 use Rattle.hc_flatsim.specs.Edges.{next_registers}
 use Rattle.hc_flatsim.specs.Machine.{node_widths, widths}
 use Rattle.hc_flatsim.proofs.edges.step_registers.Given as goal
 
-abbrev pub invariant-order : goal.invariant-order
-invariant-order l =
-    (next_registers l.circuit l.values (drop l.id-index l.order) l.registers ≡ next_registers l.circuit l.values l.order l.initial.registers)
+abbrev pub invariant-clocked : goal.invariant-clocked
+invariant-clocked l =
+    (next_registers l.circuit l.values (drop l.id-index l.clocked) l.registers ≡ next_registers l.circuit l.values l.clocked l.initial.registers)
     × (widths l.registers ≡ node_widths l.circuit.nodes)
+    × (l.changed ≡ false → l.registers ≡ l.initial.registers)

@@ -1,4 +1,4 @@
-use Rattle.std.proofs.Common.{◌≡◌, ◌<◌, ◌∷◌, suc, length, arith, ap, rules}
+use Rattle.std.proofs.Common.{◌≡◌, suc, length, arith, ap}
 use Rattle.hc_flatsim.proofs.Arms.{nonempty, rest_fits, rest_within, first_within}
 use Rattle.hc_flatsim.proofs.operands.+cat.Goals as goal
 

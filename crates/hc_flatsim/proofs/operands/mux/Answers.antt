@@ -1,5 +1,5 @@
-use Rattle.std.proofs.Common.{◌≡◌, ◌-◌, ◌<◌, ◌≤◌, length, arith, refl, sym, ◌∙◌, ap}
-use Rattle.std.specs.Prelude.{min, slice_get, slice_index_or, Some}
+use Rattle.std.proofs.Common.{◌≡◌, ◌-◌, ◌<◌, ◌≤◌, length, arith, ◌∙◌, ap}
+use Rattle.std.specs.Prelude.{min}
 use Rattle.std.proofs.lemmas.Option.{slice_get-get_or}
 use Rattle.hc_flatsim.proofs.Shapes.{case_within}
 use Rattle.hc_flatsim.proofs.Computing.{mux_picks}

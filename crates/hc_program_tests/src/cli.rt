@@ -64,6 +64,12 @@ const MILLION: &str =
 const TOO_MANY: &str =
     "circuit t\noutput q 8\nwire n 8\nreg r n init 5\nassign n add(r,const(8,1))\nassign q r\ntop t\nbench\ncycle 1000001\nend\n";
 
+const WIDTHS: &str =
+    "circuit t\ninput a 14\ninput b 1\ninput c 5\ninput d 65\ninput e 128\noutput p 14\noutput q 1\noutput r 5\noutput s 65\noutput u 128\nassign p a\nassign q b\nassign r c\nassign s d\nassign u e\ntop t\nbench\nset a 192\nset b 1\nset c 17\nset d 65'h10000000000000001\nset e -1\ncycle\nend\n";
+
+const WIDTHS_ROW: &str =
+    "0 p=00c0 q=1 r=11 s=10000000000000001 u=ffffffffffffffffffffffffffffffff | p=00c0 q=1 r=11 s=10000000000000001 u=ffffffffffffffffffffffffffffffff\n";
+
 const TOO_DEEP: &str =
     "circuit d n\noutput y 1\nif n>1\ninst u d (n-1) :\nassign y u.y\nelse\nassign y const(1,1)\nend\ntop d 65\n";
 
@@ -160,6 +166,7 @@ fn benches_end_as_told(rt: HostRuntime) -> Result<(), Fail> {
         ("sim --flat", REGISTER, 0, "0 q=00 | q=03\n1 q=03 | q=07\n"),
         ("sim", MEMORY, 0, "0 q=0 | q=5\n1 q=0 | q=0\n"),
         ("sim", TREE, 0, "0 s=00c0 | s=00c0\n"),
+        ("sim", WIDTHS, 0, WIDTHS_ROW),
         (
             "stat",
             TREE,
@@ -199,6 +206,14 @@ fn ends_outside(rt: HostRuntime) -> Result<(), Fail> {
     let write = run(&rt, rt.alloc(), "verilog", adder, None, 10)?;
     assert!(rt; write.status == 4 && write.written.as_slice() == b"module add".as_slice());
     assert!(rt; write.turns == 1 && write.entries == 1);
+    let listing = run(&rt, rt.alloc(), "sim", MILLION.as_bytes(), None, 10_000)?;
+    assert!(rt; listing.status == 4 && listing.written.len() == 10_000);
+    assert!(rt;
+        listing
+            .written
+            .as_slice()
+            .starts_with(b"0 q=05 | q=06\n1 q=06 | q=07\n")
+    );
     let long = vec![in rt.alloc(); b' '; 4_194_305]?;
     let long = run(&rt, rt.alloc(), "verilog", &long, None, 1000)?;
     assert!(rt;

@@ -1,7 +1,8 @@
 //! The calls that make one node.
-ghost use Rattle.std.specs.Prelude.{◌≡◌, ◌≤◌, ◌∷◌, [], length, IfErr, IfOk, OnOk};
+ghost use Rattle.std.specs.Prelude.{◌≡◌, ◌≤◌, ◌<◌, ◌∷◌, [], length, IfErr, IfOk, Ok, OnOk};
 ghost use Rattle.hc_bits.specs.Catalogue.{arity};
 ghost use Rattle.hc_signal.specs.Builds.{AreNodes, IsMemory, IsNode};
+ghost use Rattle.hc_signal.specs.Weight.{graph_weight};
 ghost use Rattle.hc_signal.specs.declared.stop.BuildStop.TheVariants as stop;
 ghost use Rattle.hc_unfold.specs.Gives.{Gives, Grows, HasRoom};
 ghost use Rattle.hc_unfold.specs.Drawing as spec;
@@ -12,8 +13,9 @@ use hc_signal::{BuildStop, Builder, MemId, NodeId, Op2};
 /// The weight from which on nothing more is drawn. No text of a lawful length comes near it.
 const MOST_WEIGHT: u64 = 1 << 31;
 
-/// Whether there is room for more.
+/// Whether there is room for more: want of memory comes only from a weight of 2^31 on.
 pub fn has_room(builder: &Builder) -> Result<(), BuildStop>
+    ensures light { graph_weight builder.now < 2147483648 → result ≡ Ok tt }
     ensures ok { OnOk result (HasRoom builder.now) }
     ensures memory { IfErr result (λ e. e ≡ stop.NoMemory) }
 {

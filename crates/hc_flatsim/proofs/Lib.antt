@@ -14,3 +14,4 @@ pub mod Arms
 pub mod WordWidths
 pub mod Made
 pub mod NoOps
+pub mod Planned

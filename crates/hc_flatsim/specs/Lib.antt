@@ -1,4 +1,5 @@
 pub mod Updates
+pub mod Plan
 pub mod Machine
 pub mod Settling
 pub mod Edges

@@ -18,15 +18,18 @@ use Rattle.hc_paths.specs.Digraph.{AllDifferent}
 use Rattle.hc_paths.specs.Schedule.{IsSchedule}
 use Rattle.hc_bench.specs.Simulation.{State, IsSettled, clock_edge}
 use Rattle.hc_bench.specs.Trace.{Simulation}
+use Rattle.hc_flatsim.specs.Plan.{plan_of}
+use Rattle.hc_flatsim.specs.declared.plan.Step.{Step}
 use Rattle.hc_flatsim.specs.declared.known.Known.{Known}
 use Rattle.hc_flatsim.specs.declared.known.Known.TheVariants.{Nothing, Settled, Rest}
 
--- A circuit, an order of its reached nodes, the registers among them, its reached memories, a value and a register value
+-- A circuit, an order of its reached nodes, the plan to compute them, the registers among them, its reached memories, a value and a register value
 -- for each node, the words of each memory, the inputs, the outputs before and after the last clock edge, and what is known
 -- of the values.
 pub record Machine : Type 0 where
   pub graph : Graph
   pub order : List NodeId
+  pub plan : List Step
   pub clocked : List NodeId
   pub used : List MemId
   pub values : List BitVector
@@ -143,6 +146,7 @@ pub record IsMachine (m : Machine) : Type 0 where
   pub lawful : IsLawful m.graph
   pub flat : IsFlatCircuit m.graph
   pub schedule : IsSchedule m.graph m.order
+  pub plan : m.plan ≡ plan_of m.graph m.order
   pub clocked : m.clocked ≡ registers_among m.graph m.order
   pub used : (id : MemId) → Has m.used id ↔ Reached m.graph (mem id.0)
   pub used_once : AllDifferent m.used

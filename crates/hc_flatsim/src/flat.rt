@@ -18,6 +18,7 @@ use crate::make::{
     initial_registers, registers_among, used_memories, zeros_of_memories, zeros_of_nodes,
     zeros_of_ports,
 };
+use crate::plan::{Step, plan_of};
 use crate::settle::{note, settle};
 use crate::words::Words;
 use hc_bench::Sim;
@@ -32,8 +33,8 @@ use std::marker::Model;
 #[derive(Drop)]
 pub struct FlatSim<'a> {
     circuit: &'a Circuit,
-    // the nodes that the outputs reach, each after those that it is computed from
-    order: Vec<NodeId>,
+    // a step for each node that the outputs reach, after those of the nodes that it is computed from
+    plan: Vec<Step>,
     // the registers among them
     clocked: Vec<NodeId>,
     // the memories that the outputs reach
@@ -50,12 +51,13 @@ pub struct FlatSim<'a> {
 
 impl<'a> Model for FlatSim<'a> {
     ghost use Rattle.hc_flatsim.specs.Machine.{Machine, IsMachine};
+    ghost use Rattle.hc_flatsim.specs.Plan.{planned};
 
     ghost Value = { Machine };
 
-    ghost view = { λ s. record { graph = s.circuit.now; order = s.order.items; clocked = s.clocked.items; used = s.used.items; values = s.values.items; registers = s.registers.items; memories = s.memories.items; inputs = s.inputs.items; before = s.before.items; after = s.after.items; known = s.known } };
+    ghost view = { λ s. record { graph = s.circuit.now; order = planned s.plan.items; plan = s.plan.items; clocked = s.clocked.items; used = s.used.items; values = s.values.items; registers = s.registers.items; memories = s.memories.items; inputs = s.inputs.items; before = s.before.items; after = s.after.items; known = s.known } };
 
-    ghost invariant = { λ s. IsMachine (record { graph = s.circuit.now; order = s.order.items; clocked = s.clocked.items; used = s.used.items; values = s.values.items; registers = s.registers.items; memories = s.memories.items; inputs = s.inputs.items; before = s.before.items; after = s.after.items; known = s.known }) };
+    ghost invariant = { λ s. IsMachine (record { graph = s.circuit.now; order = planned s.plan.items; plan = s.plan.items; clocked = s.clocked.items; used = s.used.items; values = s.values.items; registers = s.registers.items; memories = s.memories.items; inputs = s.inputs.items; before = s.before.items; after = s.after.items; known = s.known }) };
 }
 
 impl<'a> FlatSim<'a> {
@@ -73,6 +75,7 @@ impl<'a> FlatSim<'a> {
             Ok(order) => order,
             Err(_) => return Err(NoMemory),
         };
+        let plan = plan_of(alloc, circuit, order.as_slice())?;
         let clocked = registers_among(alloc, circuit, order.as_slice())?;
         let used = used_memories(alloc, circuit)?;
         let values = zeros_of_nodes(alloc, circuit)?;
@@ -84,7 +87,7 @@ impl<'a> FlatSim<'a> {
         let after = zeros_of_ports(alloc, ports.outputs.as_slice())?;
         Ok(FlatSim {
             circuit,
-            order,
+            plan,
             clocked,
             used,
             values,
@@ -119,7 +122,7 @@ impl<'a> FlatSim<'a> {
         self.known = Known::Nothing;
         settle(
             self.circuit,
-            self.order.as_slice(),
+            self.plan.as_slice(),
             self.registers.as_slice(),
             self.memories.as_slice(),
             self.inputs.as_slice(),
@@ -209,7 +212,7 @@ impl<'a> FlatSim<'a> {
     fn machine(&self)
         ensures { IsMachine self.now }
     {
-        let _ = &self.order;
+        let _ = &self.plan;
     }
 
     /// Whether an input has this value.

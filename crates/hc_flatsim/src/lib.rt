@@ -9,6 +9,7 @@ mod known;
 mod make;
 mod operands;
 mod ops;
+mod plan;
 mod settle;
 mod words;
 

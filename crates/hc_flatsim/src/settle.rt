@@ -1,15 +1,17 @@
 //! The values of all nodes that the outputs reach.
 ghost use Rattle.std.specs.Prelude.{◌≡◌, length, map, slice_get};
 ghost use Rattle.hc_flatsim.specs.Machine.{node_widths, port_widths, widths};
+ghost use Rattle.hc_flatsim.specs.Plan.{plan_of, planned, step_of};
 ghost use Rattle.hc_flatsim.specs.Settling.{operand, settled, with_row, IsGiven};
 
 use crate::compute::compute;
-use crate::operands::operand;
+use crate::operands::{operand, two};
+use crate::plan::{Make, Step};
 use crate::words::Words;
 use hc_bits::Bits;
 use hc_signal::{Circuit, NodeId};
 
-/// Computes the value of one node.
+/// Computes the value of one node from its row.
 fn settle_node(
     circuit: &Circuit,
     registers: &[Bits],
@@ -29,22 +31,58 @@ fn settle_node(
     }
 }
 
-/// Computes the values of these nodes, in this order.
+/// Takes one step of the plan.
+fn settle_step(
+    circuit: &Circuit,
+    registers: &[Bits],
+    memories: &[Words],
+    inputs: &[Bits],
+    values: &mut [Bits],
+    step: Step,
+)
+    requires step { step ≡ step_of circuit.now step.id }
+    requires given { IsGiven circuit.now (record { registers = registers.now; memories = memories.now; inputs = inputs.now }) }
+    requires values { widths values.old ≡ node_widths circuit.now.nodes }
+    ensures value { values.new ≡ with_row circuit.now (record { registers = registers.now; memories = memories.now; inputs = inputs.now }) values.old step.id.0 (slice_get circuit.now.nodes step.id.0) }
+    ensures widths { widths values.new ≡ node_widths circuit.now.nodes }
+{
+    circuit.lawful();
+    let place = step.id.0 as usize;
+    match step.make {
+        Make::Same(a) => {
+            let value = operand(circuit, values, a);
+            values[place] = value;
+        }
+        Make::Binary(op, a, b) => {
+            let value = two(op, operand(circuit, values, a), operand(circuit, values, b));
+            values[place] = value;
+        }
+        Make::Complement(a) => {
+            let value = operand(circuit, values, a).not();
+            values[place] = value;
+        }
+        Make::Held => values[place] = registers[place],
+        Make::Row => settle_node(circuit, registers, memories, inputs, values, step.id),
+    }
+}
+
+/// Computes the values of the planned nodes, in their order.
 pub fn settle(
     circuit: &Circuit,
-    order: &[NodeId],
+    plan: &[Step],
     registers: &[Bits],
     memories: &[Words],
     inputs: &[Bits],
     values: &mut [Bits],
 )
+    requires plan { plan.now ≡ plan_of circuit.now (planned plan.now) }
     requires given { IsGiven circuit.now (record { registers = registers.now; memories = memories.now; inputs = inputs.now }) }
     requires values { widths values.old ≡ node_widths circuit.now.nodes }
-    ensures value { values.new ≡ settled circuit.now (record { registers = registers.now; memories = memories.now; inputs = inputs.now }) order.now values.old }
+    ensures value { values.new ≡ settled circuit.now (record { registers = registers.now; memories = memories.now; inputs = inputs.now }) (planned plan.now) values.old }
     ensures widths { widths values.new ≡ node_widths circuit.now.nodes }
 {
-    'order: for id in order {
-        settle_node(circuit, registers, memories, inputs, values, *id);
+    'plan: for step in plan {
+        settle_step(circuit, registers, memories, inputs, values, *step);
     }
 }
 

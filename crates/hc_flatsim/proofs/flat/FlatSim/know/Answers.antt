@@ -8,6 +8,7 @@ invariant_of-self c = record {
   lawful = c.self.invariant.lawful;
   flat = c.self.invariant.flat;
   schedule = c.self.invariant.schedule;
+  plan = c.self.invariant.plan;
   clocked = c.self.invariant.clocked;
   used = c.self.invariant.used;
   used_once = c.self.invariant.used_once;

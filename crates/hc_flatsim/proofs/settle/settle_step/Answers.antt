@@ -1,0 +1,20 @@
+use Rattle.hc_flatsim.proofs.Planned.{same_step, binary_step, complement_step, held_step}
+use Rattle.hc_flatsim.proofs.settle.settle_step.Goals as goal
+
+pub returns-in-Same-clause-widths : goal.returns-in-Same-clause-widths
+returns-in-Same-clause-widths c = (same_step c.args.circuit.now c.lawful.ensures (record { registers = c.args.registers.now; memories = c.args.memories.now; inputs = c.args.inputs.now }) c.requires.given c.args.values.now c.requires.values c.args.step c.requires.step c.in-Same.a c.operand-value.result c.in-Same.is c.operand-value.ensures).1
+
+pub returns-in-Binary-clause-value : goal.returns-in-Binary-clause-value
+returns-in-Binary-clause-value c = (binary_step c.args.circuit.now c.lawful.ensures (record { registers = c.args.registers.now; memories = c.args.memories.now; inputs = c.args.inputs.now }) c.requires.given c.args.values.now c.requires.values c.args.step c.requires.step c.in-Binary.op c.in-Binary.a c.in-Binary.b c.operand.result c.operand-in-Binary.result c.two-value.result c.in-Binary.is c.operand.ensures c.operand-in-Binary.ensures c.two-value.ensures).0
+
+pub returns-in-Binary-clause-widths : goal.returns-in-Binary-clause-widths
+returns-in-Binary-clause-widths c = (binary_step c.args.circuit.now c.lawful.ensures (record { registers = c.args.registers.now; memories = c.args.memories.now; inputs = c.args.inputs.now }) c.requires.given c.args.values.now c.requires.values c.args.step c.requires.step c.in-Binary.op c.in-Binary.a c.in-Binary.b c.operand.result c.operand-in-Binary.result c.two-value.result c.in-Binary.is c.operand.ensures c.operand-in-Binary.ensures c.two-value.ensures).1
+
+pub returns-in-Complement-clause-widths : goal.returns-in-Complement-clause-widths
+returns-in-Complement-clause-widths c = (complement_step c.args.circuit.now c.lawful.ensures (record { registers = c.args.registers.now; memories = c.args.memories.now; inputs = c.args.inputs.now }) c.requires.given c.args.values.now c.requires.values c.args.step c.requires.step c.in-Complement.a c.operand-in-Complement.result c.not-value.result c.in-Complement.is c.operand-in-Complement.ensures c.not-value.ensures).1
+
+pub returns-in-Held-clause-value : goal.returns-in-Held-clause-value
+returns-in-Held-clause-value c = (held_step c.args.circuit.now c.lawful.ensures (record { registers = c.args.registers.now; memories = c.args.memories.now; inputs = c.args.inputs.now }) c.requires.given c.args.values.now c.requires.values c.args.step c.requires.step c.index-registers-place.result c.in-Held.is c.index-registers-place.is).0
+
+pub returns-in-Held-clause-widths : goal.returns-in-Held-clause-widths
+returns-in-Held-clause-widths c = (held_step c.args.circuit.now c.lawful.ensures (record { registers = c.args.registers.now; memories = c.args.memories.now; inputs = c.args.inputs.now }) c.requires.given c.args.values.now c.requires.values c.args.step c.requires.step c.index-registers-place.result c.in-Held.is c.index-registers-place.is).1

@@ -2,7 +2,7 @@
 use Rattle.std.proofs.Common.{◌≡◌, ℕ, ◌+◌, ◌<◌, List, length, get_or, refl, sym, subst, ◌∙◌, ap, ap₂}
 use Rattle.std.specs.Prelude.{slice_get, slice_set, Option, Some, None, option_map}
 use Rattle.std.proofs.lemmas.Option.{slice_get-get_or, slice_get-map, same_Some}
-use Rattle.hc_bits.specs.BitVector.{BitVector, not_}
+use Rattle.hc_bits.specs.BitVector.{BitVector, not_, select}
 use Rattle.hc_signal.specs.declared.signal.NodeId.{NodeId}
 use Rattle.hc_signal.specs.declared.signal.NodeRow.{NodeRow}
 use Rattle.hc_signal.specs.declared.signal.Op2.{Op2}
@@ -13,7 +13,7 @@ use Rattle.hc_signal.specs.Graph.{Graph}
 use Rattle.hc_signal.specs.Lawful.{FitsTwo, HasWidth, IsLawful, IsLawfulNode}
 use Rattle.hc_signal.specs.Operators.{binary}
 use Rattle.hc_flatsim.specs.declared.plan.Make.{Make}
-use Rattle.hc_flatsim.specs.declared.plan.Make.TheVariants.{Same, Binary, Complement, Held, Row}
+use Rattle.hc_flatsim.specs.declared.plan.Make.TheVariants.{Same, Binary, Complement, Part, Held, Row}
 use Rattle.hc_flatsim.specs.declared.plan.Step.{Step}
 use Rattle.hc_flatsim.specs.Plan.{make_of, make_of_row, plan_of, planned, step_of}
 use Rattle.hc_flatsim.specs.Machine.{node_widths, widths}
@@ -27,6 +27,7 @@ abbrev pub IsMade : Make → Node → Type 0
 IsMade (Same a) x = x ≡ Wire (Some a)
 IsMade (Binary op a b) x = x ≡ Two op a b
 IsMade (Complement a) x = x ≡ Not a
+IsMade (Part a hi lo) x = x ≡ Select a hi lo
 IsMade Held x = (next : NodeId) × (enable : Option NodeId) × (clear : Option (NodeId × BitVector)) × (init : BitVector) × (x ≡ Reg next enable clear init)
 IsMade Row x = Unit {0}
 
@@ -45,7 +46,7 @@ is_made (Input port) = tt
 is_made (Const value) = tt
 is_made (Mux sel cases) = tt
 is_made (Cat parts) = tt
-is_made (Select a hi lo) = tt
+is_made (Select a hi lo) = refl
 is_made (Read m addr) = tt
 is_made (InstOut i port) = tt
 is_made (Op kind args) = tt
@@ -54,6 +55,7 @@ with_its_row : (make : Make) (row : NodeRow) → IsMade make row.node → IsMade
 with_its_row (Same a) row h = (row, refl, h)
 with_its_row (Binary op a b) row h = (row, refl, h)
 with_its_row (Complement a) row h = (row, refl, h)
+with_its_row (Part a hi lo) row h = (row, refl, h)
 with_its_row Held row h = (row, refl, h)
 with_its_row Row row h = tt
 
@@ -125,6 +127,13 @@ module _ (g : Graph) (l : IsLawful g) (given : Given) (fits : IsGiven g given) (
       let whole : x ≡ not_ (operand g values a) = e ∙ ap not_ ey in
       placed r.0 x r.1
       (arm g given values s.id.0 r.0 (Not a) x r.2 (ap (λ (b : BitVector). b.width) whole ∙ operand_width g values a r.0.width h) (ap (λ (b : BitVector). b.value) whole))
+
+  pub part_step : (a : NodeId) (hi lo : ℕ) (y x : BitVector) → s.make ≡ Part a hi lo → y ≡ operand g values a → x ≡ select y hi lo → IsStep x
+  part_step a hi lo y x is ey e =
+      let r : IsMadeRow (Part a hi lo) (slice_get g.nodes s.id.0) = step_made g s (Part a hi lo) is_step is in
+      let h : IsLawfulNode g r.0.width (Select a hi lo) = node_lawful g l given fits values s.id.0 r.0 r.1 (Select a hi lo) r.2 in
+      let whole : x ≡ select (operand g values a) hi lo = e ∙ ap (λ (b : BitVector). select b hi lo) ey in
+      placed r.0 x r.1 (arm g given values s.id.0 r.0 (Select a hi lo) x r.2 (ap (λ (b : BitVector). b.width) whole ∙ sym h.4) (ap (λ (b : BitVector). b.value) whole))
 
   pub held_step : (x : BitVector) → s.make ≡ Held → x ≡ get_or given.registers s.id.0 x → IsStep x
   held_step x is e =

@@ -3,10 +3,10 @@ use Rattle.std.specs.Prelude.{List, map, slice_get, Option, Some, None}
 use Rattle.hc_signal.specs.declared.signal.NodeId.{NodeId}
 use Rattle.hc_signal.specs.declared.signal.NodeRow.{NodeRow}
 use Rattle.hc_signal.specs.declared.signal.Node.{Node}
-use Rattle.hc_signal.specs.declared.signal.Node.TheVariants.{Wire, Two, Not, Reg}
+use Rattle.hc_signal.specs.declared.signal.Node.TheVariants.{Wire, Two, Not, Select, Reg}
 use Rattle.hc_signal.specs.Graph.{Graph}
 use Rattle.hc_flatsim.specs.declared.plan.Make.{Make}
-use Rattle.hc_flatsim.specs.declared.plan.Make.TheVariants.{Same, Binary, Complement, Held, Row}
+use Rattle.hc_flatsim.specs.declared.plan.Make.TheVariants.{Same, Binary, Complement, Part, Held, Row}
 use Rattle.hc_flatsim.specs.declared.plan.Step.{Step}
 
 -- what makes the value of a node
@@ -14,6 +14,7 @@ abbrev pub make_of : Node → Make
 make_of (Wire (Some a)) = Same a
 make_of (Two op a b) = Binary op a b
 make_of (Not a) = Complement a
+make_of (Select a hi lo) = Part a hi lo
 make_of (Reg next enable clear init) = Held
 make_of other = Row
 

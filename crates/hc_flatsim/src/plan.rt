@@ -1,10 +1,12 @@
 //! What makes the value of each node, in small steps.
 ghost use Rattle.std.specs.Prelude.{◌≡◌, slice_get, IfOk};
+ghost use Rattle.hc_signal.specs.Lawful.{IsLawfulNode};
 ghost use Rattle.hc_flatsim.specs.Plan.{make_of, plan_of, step_of};
 
 use hc_fault::NoMemory;
 use hc_signal::{Circuit, Node, NodeId, NodeRow, Op2};
 use std::alloc::Global;
+use std::mem::size_of;
 
 /// What makes the value of a node.
 #[derive(Clone, Copy)]
@@ -15,6 +17,8 @@ pub enum Make {
     Binary(Op2, NodeId, NodeId),
     /// The complement.
     Complement(NodeId),
+    /// The bits of another node from `hi` down to `lo`.
+    Part { a: NodeId, hi: u8, lo: u8 },
     /// The node is a register.
     Held,
     /// All else that the row of the node tells.
@@ -28,14 +32,24 @@ pub struct Step {
     pub make: Make,
 }
 
+// the loop over a plan reads its steps one after another
+const _: () = prove!(size_of::<Step>() <= 16);
+
 /// What makes the value of a node.
-fn make_of(row: &NodeRow) -> Make
+fn make_of(circuit: &Circuit, row: &NodeRow) -> Make
+    requires lawful { IsLawfulNode circuit.now row.now.width row.now.node }
     ensures { result ≡ make_of row.now.node }
 {
+    circuit.lawful();
     match &row.node {
         Node::Wire { driver: Some(a) } => Make::Same(*a),
         Node::Two { op, a, b } => Make::Binary(*op, *a, *b),
         Node::Not { a } => Make::Complement(*a),
+        Node::Select { a, hi, lo } => Make::Part {
+            a: *a,
+            hi: *hi as u8,
+            lo: *lo as u8,
+        },
         Node::Reg { .. } => Make::Held,
         _ => Make::Row,
     }
@@ -45,8 +59,9 @@ fn make_of(row: &NodeRow) -> Make
 fn step_of(circuit: &Circuit, id: NodeId) -> Step
     ensures { result ≡ step_of circuit.now id }
 {
+    circuit.lawful();
     let make = match circuit.nodes().get(id.0 as usize) {
-        Some(row) => make_of(row),
+        Some(row) => make_of(circuit, row),
         None => Make::Row,
     };
     Step { id, make }

@@ -61,6 +61,10 @@ fn settle_step(
             let value = operand(circuit, values, a).not();
             values[place] = value;
         }
+        Make::Part { a, hi, lo } => {
+            let value = operand(circuit, values, a).select(hi as u32, lo as u32);
+            values[place] = value;
+        }
         Make::Held => values[place] = registers[place],
         Make::Row => settle_node(circuit, registers, memories, inputs, values, step.id),
     }

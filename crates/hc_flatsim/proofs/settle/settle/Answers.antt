@@ -1,4 +1,3 @@
-use Rattle.hc_signal.specs.declared.signal.NodeId.{NodeId}
 use Rattle.hc_flatsim.specs.declared.plan.Make.TheVariants.{Same}
 use Rattle.hc_flatsim.proofs.Planned.{step_is}
 use Rattle.hc_flatsim.proofs.settle.settle.Goals as goal

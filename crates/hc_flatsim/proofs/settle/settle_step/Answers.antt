@@ -1,4 +1,4 @@
-use Rattle.hc_flatsim.proofs.Planned.{same_step, binary_step, complement_step, held_step}
+use Rattle.hc_flatsim.proofs.Planned.{same_step, binary_step, complement_step, part_step, held_step}
 use Rattle.hc_flatsim.proofs.settle.settle_step.Goals as goal
 
 pub returns-in-Same-clause-widths : goal.returns-in-Same-clause-widths
@@ -18,3 +18,6 @@ returns-in-Held-clause-value c = (held_step c.args.circuit.now c.lawful.ensures 
 
 pub returns-in-Held-clause-widths : goal.returns-in-Held-clause-widths
 returns-in-Held-clause-widths c = (held_step c.args.circuit.now c.lawful.ensures (record { registers = c.args.registers.now; memories = c.args.memories.now; inputs = c.args.inputs.now }) c.requires.given c.args.values.now c.requires.values c.args.step c.requires.step c.index-registers-place.result c.in-Held.is c.index-registers-place.is).1
+
+pub returns-in-Part-clause-widths : goal.returns-in-Part-clause-widths
+returns-in-Part-clause-widths c = (part_step c.args.circuit.now c.lawful.ensures (record { registers = c.args.registers.now; memories = c.args.memories.now; inputs = c.args.inputs.now }) c.requires.given c.args.values.now c.requires.values c.args.step c.requires.step c.in-Part.a c.in-Part.hi c.in-Part.lo c.operand-in-Part.result c.select-value.result c.in-Part.is c.operand-in-Part.ensures c.select-value.ensures).1

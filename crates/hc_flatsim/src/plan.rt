@@ -21,7 +21,7 @@ pub enum Make {
     Part { a: NodeId, hi: u8, lo: u8 },
     /// The node is a register.
     Held,
-    /// All else that the row of the node tells.
+    /// All else: the row of the node tells.
     Row,
 }
 
@@ -32,7 +32,7 @@ pub struct Step {
     pub make: Make,
 }
 
-// the loop over a plan reads its steps one after another
+// small, since each settling reads all steps
 const _: () = prove!(size_of::<Step>() <= 16);
 
 /// What makes the value of a node.

@@ -5,6 +5,7 @@ ghost use Rattle.hc_cli.specs.OpUse as spec;
 use hc_fault::Name;
 use hc_lang::{CircuitText, Design, Sig, Stmt, What};
 use hc_tokens::Num;
+use sqlite_items::Boxed;
 
 /// Whether one of the signals holds an operation.
 #[cycle(sig)]
@@ -33,21 +34,24 @@ fn sig_holds_op(sig: &Sig) -> bool
 }
 
 /// Whether an enable holds an operation.
-fn enable_holds_op(enable: &Option<Sig>) -> bool
+fn enable_holds_op(enable: &Option<Boxed<Sig>>) -> bool
     ensures { result ≡ spec.enable_holds_op enable.now }
 {
     match enable {
-        Some(sig) => sig_holds_op(sig),
+        Some(sig) => sig_holds_op(sig.get()),
         None => false,
     }
 }
 
 /// Whether a clear holds an operation.
-fn clear_holds_op(clear: &Option<(Sig, Num)>) -> bool
+fn clear_holds_op(clear: &Option<Boxed<(Sig, Num)>>) -> bool
     ensures { result ≡ spec.clear_holds_op clear.now }
 {
     match clear {
-        Some((sig, _)) => sig_holds_op(sig),
+        Some(parts) => {
+            let (sig, _) = parts.get();
+            sig_holds_op(sig)
+        }
         None => false,
     }
 }
@@ -90,13 +94,13 @@ fn stmt_holds_op(stmt: &Stmt) -> bool
             enable,
             clear,
             ..
-        } => sig_holds_op(next) || enable_holds_op(enable) || clear_holds_op(clear),
+        } => sig_holds_op(next.get()) || enable_holds_op(enable) || clear_holds_op(clear),
         What::Write {
             enable,
             addr,
             value,
             ..
-        } => sig_holds_op(enable) || sig_holds_op(addr) || sig_holds_op(value),
+        } => sig_holds_op(enable.get()) || sig_holds_op(addr.get()) || sig_holds_op(value.get()),
         What::Inst { conns, .. } => conns_hold_op(conns.as_slice()),
         What::For { body, .. } => any_stmt(body.as_slice()),
         What::If { yes, no, .. } => any_stmt(yes.as_slice()) || any_stmt(no.as_slice()),

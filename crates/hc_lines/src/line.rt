@@ -12,6 +12,7 @@ use crate::signal::{ident, signal};
 use crate::tree::{BenchValue, BenchWhat, Sig, What};
 use hc_fault::{ItemList, Name};
 use hc_tokens::{Mark, Num, NumOp, Stop, Token, atom, is_name, number};
+use sqlite_items::Boxed;
 use std::alloc::Global;
 
 /// What a line says.
@@ -329,13 +330,29 @@ fn is_init(word: &[u8]) -> bool
     word == b"init".as_slice()
 }
 
-fn enable(alloc: Global, tokens: &[Token], depth: usize) -> Result<(Option<Sig>, &[Token]), Stop>
+/// A signal in a box, for a line that holds several.
+fn boxed_signal(
+    alloc: Global,
+    tokens: &[Token],
+    depth: usize,
+) -> Result<(Boxed<Sig>, &[Token]), Stop>
+    ensures { Returns (λ x. (x.0, x.1.now)) result (signals.signal_at depth tokens.now) }
+{
+    let (sig, rest) = signal(alloc, tokens, depth)?;
+    Ok((Boxed::new(alloc, sig)?, rest))
+}
+
+fn enable(
+    alloc: Global,
+    tokens: &[Token],
+    depth: usize,
+) -> Result<(Option<Boxed<Sig>>, &[Token]), Stop>
     ensures { Returns (λ x. (x.0, x.1.now)) result (r.optional (codes "enable") (signals.signal_at depth) tokens.now) }
 {
     match tokens {
         [Token::Word(word), rest @ ..] => {
             if is_enable(word.bytes()) {
-                let (sig, rest) = signal(alloc, rest, depth)?;
+                let (sig, rest) = boxed_signal(alloc, rest, depth)?;
                 Ok((Some(sig), rest))
             } else {
                 Ok((None, tokens))
@@ -345,19 +362,23 @@ fn enable(alloc: Global, tokens: &[Token], depth: usize) -> Result<(Option<Sig>,
     }
 }
 
-fn sig_atom(alloc: Global, tokens: &[Token], depth: usize) -> Result<((Sig, Num), &[Token]), Stop>
+fn sig_atom(
+    alloc: Global,
+    tokens: &[Token],
+    depth: usize,
+) -> Result<(Boxed<(Sig, Num)>, &[Token]), Stop>
     ensures { Returns (λ x. (x.0, x.1.now)) result (r.seq (signals.signal_at depth) (r.atom_at depth) tokens.now) }
 {
     let (sig, rest) = signal(alloc, tokens, depth)?;
     let (number, rest) = atom(alloc, rest, depth)?;
-    Ok(((sig, number), rest))
+    Ok((Boxed::new(alloc, (sig, number))?, rest))
 }
 
 fn clear(
     alloc: Global,
     tokens: &[Token],
     depth: usize,
-) -> Result<(Option<(Sig, Num)>, &[Token]), Stop>
+) -> Result<(Option<Boxed<(Sig, Num)>>, &[Token]), Stop>
     ensures { Returns (λ x. (x.0, x.1.now)) result (r.optional (codes "clear") (r.seq (signals.signal_at depth) (r.atom_at depth)) tokens.now) }
 {
     match tokens {
@@ -491,7 +512,7 @@ fn clear_parts(
     alloc: Global,
     tokens: &[Token],
     depth: usize,
-) -> Result<((Option<(Sig, Num)>, Option<Num>), &[Token]), Stop>
+) -> Result<((Option<Boxed<(Sig, Num)>>, Option<Num>), &[Token]), Stop>
     ensures { Returns (λ x. (x.0, x.1.now)) result (r.clear_parts depth tokens.now) }
 {
     let (clear, rest) = clear(alloc, tokens, depth)?;
@@ -504,7 +525,13 @@ fn reg_parts(
     alloc: Global,
     tokens: &[Token],
     depth: usize,
-) -> Result<((Option<Sig>, (Option<(Sig, Num)>, Option<Num>)), &[Token]), Stop>
+) -> Result<
+    (
+        (Option<Boxed<Sig>>, (Option<Boxed<(Sig, Num)>>, Option<Num>)),
+        &[Token],
+    ),
+    Stop,
+>
     ensures { Returns (λ x. (x.0, x.1.now)) result (r.reg_parts depth tokens.now) }
 {
     let (enable, rest) = enable(alloc, tokens, depth)?;
@@ -517,7 +544,7 @@ fn reg_line(alloc: Global, tokens: &[Token], depth: usize) -> Result<Line, Stop>
     ensures { Returns (λ x. x) result (r.reg_line depth tokens.now) }
 {
     let (to, rest) = ident(alloc, tokens, depth)?;
-    let (next, rest) = signal(alloc, rest, depth)?;
+    let (next, rest) = boxed_signal(alloc, rest, depth)?;
     let ((enable, (clear, init)), rest) = reg_parts(alloc, rest, depth)?;
     whole(
         Line::Simple(What::Reg {
@@ -546,11 +573,11 @@ fn two_signals(
     alloc: Global,
     tokens: &[Token],
     depth: usize,
-) -> Result<((Sig, Sig), &[Token]), Stop>
+) -> Result<((Boxed<Sig>, Boxed<Sig>), &[Token]), Stop>
     ensures { Returns (λ x. (x.0, x.1.now)) result (r.two_signals depth tokens.now) }
 {
-    let (first, rest) = signal(alloc, tokens, depth)?;
-    let (second, rest) = signal(alloc, rest, depth)?;
+    let (first, rest) = boxed_signal(alloc, tokens, depth)?;
+    let (second, rest) = boxed_signal(alloc, rest, depth)?;
     Ok(((first, second), rest))
 }
 
@@ -560,10 +587,10 @@ fn write_parts(
     alloc: Global,
     tokens: &[Token],
     depth: usize,
-) -> Result<((Sig, (Sig, Sig)), &[Token]), Stop>
+) -> Result<((Boxed<Sig>, (Boxed<Sig>, Boxed<Sig>)), &[Token]), Stop>
     ensures { Returns (λ x. (x.0, x.1.now)) result (r.write_parts depth tokens.now) }
 {
-    let (enable, rest) = signal(alloc, tokens, depth)?;
+    let (enable, rest) = boxed_signal(alloc, tokens, depth)?;
     let (parts, rest) = two_signals(alloc, rest, depth)?;
     Ok(((enable, parts), rest))
 }

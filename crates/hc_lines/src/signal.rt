@@ -1,4 +1,4 @@
-ghost use Rattle.std.specs.Prelude.{◌≡◌, ◌<◌, codes, map, []};
+ghost use Rattle.std.specs.Prelude.{◌≡◌, ◌<◌, codes, map, [], Some};
 ghost use Rattle.std.specs.Option.{option_map};
 ghost use Rattle.hc_tokens.specs.Returns.{Returns};
 ghost use Rattle.hc_tokens.specs.Tokens.{same_bytes};
@@ -290,7 +290,14 @@ fn takes_sigs(word: CallWord, count: usize) -> bool
     }
 }
 
-/// Signals with commas between them, one or more.
+/// An empty list with room for so many items.
+fn room_for<T>(alloc: Global, count: usize) -> Result<ItemList<T>, Stop>
+    ensures { Returns (λ x. x) result (Some []) }
+{
+    Ok(ItemList::from_vec(Vec::with_capacity(alloc, count)?))
+}
+
+/// Signals with commas between them, one or more. Most calls have two.
 #[cycle(signal)]
 #[tactic(auto, unfolding(crate::specs::SigReading::sig_list, crate::specs::SigReading::more_sigs))]
 fn sig_list(
@@ -300,8 +307,8 @@ fn sig_list(
 ) -> Result<(ItemList<Sig>, &[Token]), Stop>
     ensures { Returns (λ x. (x.0, x.1.now)) result (r.sig_list (r.signal_at depth) tokens.now) }
 {
+    let mut sigs = room_for(alloc, 2)?;
     let (first, mut rest) = signal(alloc, tokens, depth)?;
-    let mut sigs = ItemList::new(alloc);
     sigs.push(first)?;
     let mut left = tokens.len();
     'more: while let Some(after) = next_comma(rest) {
@@ -343,8 +350,8 @@ fn listed(
 fn one_num(alloc: Global, tokens: &[Token], depth: usize) -> Result<(ItemList<Num>, &[Token]), Stop>
     ensures { Returns (λ x. (x.0, x.1.now)) result (r.one_num (reading.number_at depth) tokens.now) }
 {
+    let mut nums = room_for(alloc, 1)?;
     let (number, rest) = number(alloc, tokens, depth)?;
-    let mut nums = ItemList::new(alloc);
     nums.push(number)?;
     Ok((nums, rest))
 }
@@ -356,10 +363,10 @@ fn two_nums(
 ) -> Result<(ItemList<Num>, &[Token]), Stop>
     ensures { Returns (λ x. (x.0, x.1.now)) result (r.two_nums (reading.number_at depth) tokens.now) }
 {
+    let mut nums = room_for(alloc, 2)?;
     let (first, rest) = number(alloc, tokens, depth)?;
     let rest = past_comma(rest)?;
     let (second, rest) = number(alloc, rest, depth)?;
-    let mut nums = ItemList::new(alloc);
     nums.push(first)?;
     nums.push(second)?;
     Ok((nums, rest))
@@ -374,10 +381,10 @@ fn sig_num(
 ) -> Result<(Sig, &[Token]), Stop>
     ensures { Returns (λ x. (x.0, x.1.now)) result (r.sig_num (r.signal_at depth) (reading.number_at depth) (r.ident_at depth) word tokens.now) }
 {
+    let mut sigs = room_for(alloc, 1)?;
     let (sig, rest) = signal(alloc, tokens, depth)?;
     let rest = past_comma(rest)?;
     let (nums, rest) = one_num(alloc, rest, depth)?;
-    let mut sigs = ItemList::new(alloc);
     sigs.push(sig)?;
     Ok((Sig::Call { word, sigs, nums }, rest))
 }
@@ -391,10 +398,10 @@ fn sig_nums(
 ) -> Result<(Sig, &[Token]), Stop>
     ensures { Returns (λ x. (x.0, x.1.now)) result (r.sig_nums (r.signal_at depth) (reading.number_at depth) (r.ident_at depth) word tokens.now) }
 {
+    let mut sigs = room_for(alloc, 1)?;
     let (sig, rest) = signal(alloc, tokens, depth)?;
     let rest = past_comma(rest)?;
     let (nums, rest) = two_nums(alloc, rest, depth)?;
-    let mut sigs = ItemList::new(alloc);
     sigs.push(sig)?;
     Ok((Sig::Call { word, sigs, nums }, rest))
 }

@@ -101,9 +101,9 @@ pub enum What {
     },
     Reg {
         to: IdentText,
-        next: Sig,
-        enable: Option<Sig>,
-        clear: Option<(Sig, Num)>,
+        next: Boxed<Sig>,
+        enable: Option<Boxed<Sig>>,
+        clear: Option<Boxed<(Sig, Num)>>,
         init: Option<Num>,
     },
     Memory {
@@ -113,9 +113,9 @@ pub enum What {
     },
     Write {
         to: IdentText,
-        enable: Sig,
-        addr: Sig,
-        value: Sig,
+        enable: Boxed<Sig>,
+        addr: Boxed<Sig>,
+        value: Boxed<Sig>,
     },
     Inst {
         to: IdentText,

@@ -36,14 +36,14 @@ pub fn statement(
             enable,
             clear,
             init,
-        } => Ok(reg_line(alloc, state, env, to, next, enable, clear, init)?),
+        } => Ok(reg_line(alloc, state, env, to, next.get(), enable, clear, init)?),
         What::Memory { to, size, width } => Ok(memory_line(alloc, state, env, to, size, width)?),
         What::Write {
             to,
             enable,
             addr,
             value,
-        } => Ok(write_line(alloc, state, env, to, enable, addr, value)?),
+        } => Ok(write_line(alloc, state, env, to, enable.get(), addr.get(), value.get())?),
         What::Inst {
             to,
             of,

@@ -21,6 +21,7 @@ use hc_lang::{IdentText, Num, Sig};
 use hc_num::{Env, eval};
 use hc_signal::{BuildStop, Builder, MemId, NodeId};
 use hc_unfold::{Key, Target, as_width, draw, has_room, key};
+use sqlite_items::Boxed;
 use std::alloc::Global;
 
 /// The node of an optional signal.
@@ -28,7 +29,7 @@ fn optional_node(
     alloc: Global,
     state: &mut Elaborating,
     env: &Env,
-    sig: &Option<Sig>,
+    sig: &Option<Boxed<Sig>>,
 ) -> Result<Option<NodeId>, BuildStop>
     requires { AreKnown state.old.graph state.old.names }
     ensures done { Performs (λ id. (state.new, id)) result (spec.optional spec.signal_node (option_map (signal env.now) sig.now) state.old) }
@@ -38,7 +39,7 @@ fn optional_node(
 {
     match sig {
         Some(sig) => {
-            let id = draw(alloc, &mut state.graph, &state.names, env, sig)?;
+            let id = draw(alloc, &mut state.graph, &state.names, env, sig.get())?;
             Ok(Some(id))
         }
         None => Ok(None),
@@ -50,7 +51,7 @@ fn optional_clear(
     alloc: Global,
     state: &mut Elaborating,
     env: &Env,
-    clear: &Option<(Sig, Num)>,
+    clear: &Option<Boxed<(Sig, Num)>>,
 ) -> Result<Option<(NodeId, i64)>, BuildStop>
     requires { AreKnown state.old.graph state.old.names }
     ensures done { Performs (λ x. (state.new, x)) result (spec.optional spec.clear_part (option_map (cleared env.now) clear.now) state.old) }
@@ -59,7 +60,8 @@ fn optional_clear(
     ensures node { IfOk result (λ x. MayBeNode state.new.graph (register.clear_node x)) }
 {
     match clear {
-        Some((sig, num)) => {
+        Some(parts) => {
+            let (sig, num) = parts.get();
             let id = draw(alloc, &mut state.graph, &state.names, env, sig)?;
             let number = eval(num, env)?;
             Ok(Some((id, number)))
@@ -163,8 +165,8 @@ pub(crate) fn reg_line(
     env: &Env,
     to: &IdentText,
     next: &Sig,
-    enable: &Option<Sig>,
-    clear: &Option<(Sig, Num)>,
+    enable: &Option<Boxed<Sig>>,
+    clear: &Option<Boxed<(Sig, Num)>>,
     init: &Option<Num>,
 ) -> Result<(), BuildStop>
     requires { AreKnown state.old.graph state.old.names }

@@ -318,12 +318,15 @@ fn first_token(alloc: Global, bytes: &[u8]) -> Result<(Token, usize), Stop>
     }
 }
 
+/// There is room at first for so many tokens, which most lines do not exceed.
+const USUAL: usize = 16;
+
 /// The longest tokens of a line. `Syntax` where a byte begins no token, or a token is past its limit.
 pub fn tokens(alloc: Global, line: &[u8]) -> Result<ItemList<Token>, Stop>
     requires short { length line.now < 2 ^ 63 }
     ensures value { Returns (λ ts. ts) result (spec.tokens line.now) }
 {
-    let mut tokens = ItemList::new(alloc);
+    let mut tokens = ItemList::from_vec(Vec::with_capacity(alloc, USUAL)?);
     let mut rest = line;
     'cut: while let Some((first, after)) = rest.split_first() {
         if *first == b'#' {

@@ -10,9 +10,6 @@ use hc_fault::{Fault, FaultKind, Ident, Name, Path};
 use hc_outside::{Failed, Sink, write_all};
 use itoa::Buffer;
 
-#[cfg(test)]
-mod tests;
-
 /// The number and the name of a kind.
 fn kind_text(kind: FaultKind) -> &'static str
     ensures { result.now ≡ kind_text kind }

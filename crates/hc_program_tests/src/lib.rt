@@ -8,6 +8,8 @@ mod cli;
 #[cfg(test)]
 mod elab;
 #[cfg(test)]
+mod faults;
+#[cfg(test)]
 mod outside;
 #[cfg(test)]
 mod words;

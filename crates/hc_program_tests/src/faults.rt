@@ -1,4 +1,4 @@
-use crate::fault_line::write_fault;
+use hc_cli::write_fault;
 use hc_fault::{Fault, FaultKind, Ident, ItemList, Name, Path};
 use hc_outside::{Failed, MemSink};
 use std::alloc::Global;

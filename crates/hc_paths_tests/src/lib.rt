@@ -1,0 +1,9 @@
+//! Tests of the walk, of the check of a circuit and of its paths, through their public calls.
+#![tactic(auto)]
+
+#[cfg(test)]
+mod check;
+#[cfg(test)]
+mod paths;
+#[cfg(test)]
+mod walk;

@@ -1,8 +1,8 @@
 -- A step of the plan makes the value of its node.
-use Rattle.std.proofs.Common.{◌≡◌, ℕ, ◌+◌, ◌<◌, List, length, get_or, refl, sym, subst, ◌∙◌, ap, ap₂}
+use Rattle.std.proofs.Common.{◌≡◌, ℕ, ◌+◌, ◌<◌, List, [], ◌∷◌, map, length, get_or, refl, sym, subst, ◌∙◌, ap, ap₂}
 use Rattle.std.specs.Prelude.{slice_get, slice_set, Option, Some, None, option_map}
 use Rattle.std.proofs.lemmas.Option.{slice_get-get_or, slice_get-map, same_Some}
-use Rattle.hc_bits.specs.BitVector.{BitVector, not_, select}
+use Rattle.hc_bits.specs.BitVector.{BitVector, mux, not_, select}
 use Rattle.hc_signal.specs.declared.signal.NodeId.{NodeId}
 use Rattle.hc_signal.specs.declared.signal.NodeRow.{NodeRow}
 use Rattle.hc_signal.specs.declared.signal.Op2.{Op2}
@@ -13,12 +13,12 @@ use Rattle.hc_signal.specs.Graph.{Graph}
 use Rattle.hc_signal.specs.Lawful.{FitsTwo, HasWidth, IsLawful, IsLawfulNode}
 use Rattle.hc_signal.specs.Operators.{binary}
 use Rattle.hc_flatsim.specs.declared.plan.Make.{Make}
-use Rattle.hc_flatsim.specs.declared.plan.Make.TheVariants.{Same, Binary, Complement, Part, Held, Row}
+use Rattle.hc_flatsim.specs.declared.plan.Make.TheVariants.{Same, Binary, Complement, Part, Choice, FromPort, Held, Row}
 use Rattle.hc_flatsim.specs.declared.plan.Step.{Step}
 use Rattle.hc_flatsim.specs.Plan.{make_of, make_of_row, plan_of, planned, step_of}
 use Rattle.hc_flatsim.specs.Machine.{node_widths, widths}
 use Rattle.hc_flatsim.specs.Settling.{operand, own_vector, with_row, Given, IsGiven}
-use Rattle.hc_flatsim.proofs.Arms.{node_lawful, register_arm, value_set}
+use Rattle.hc_flatsim.proofs.Arms.{input_arm, mux_arm, node_lawful, register_arm, value_set}
 use Rattle.hc_flatsim.proofs.Computing.{arm}
 use Rattle.hc_flatsim.proofs.Shapes.{operand_width}
 
@@ -28,6 +28,8 @@ IsMade (Same a) x = x ≡ Wire (Some a)
 IsMade (Binary op a b) x = x ≡ Two op a b
 IsMade (Complement a) x = x ≡ Not a
 IsMade (Part a hi lo) x = x ≡ Select a hi lo
+IsMade (Choice sel a b) x = x ≡ Mux sel (a ∷ b ∷ [])
+IsMade (FromPort port) x = x ≡ Input port
 IsMade Held x = (next : NodeId) × (enable : Option NodeId) × (clear : Option (NodeId × BitVector)) × (init : BitVector) × (x ≡ Reg next enable clear init)
 IsMade Row x = Unit {0}
 
@@ -42,9 +44,12 @@ is_made (Wire None) = tt
 is_made (Two op a b) = refl
 is_made (Not a) = refl
 is_made (Reg next enable clear init) = (next, enable, clear, init, refl)
-is_made (Input port) = tt
+is_made (Input port) = refl
 is_made (Const value) = tt
-is_made (Mux sel cases) = tt
+is_made (Mux sel []) = tt
+is_made (Mux sel (a ∷ [])) = tt
+is_made (Mux sel (a ∷ b ∷ [])) = refl
+is_made (Mux sel (a ∷ b ∷ c ∷ cases)) = tt
 is_made (Cat parts) = tt
 is_made (Select a hi lo) = refl
 is_made (Read m addr) = tt
@@ -56,6 +61,8 @@ with_its_row (Same a) row h = (row, refl, h)
 with_its_row (Binary op a b) row h = (row, refl, h)
 with_its_row (Complement a) row h = (row, refl, h)
 with_its_row (Part a hi lo) row h = (row, refl, h)
+with_its_row (Choice sel a b) row h = (row, refl, h)
+with_its_row (FromPort port) row h = (row, refl, h)
 with_its_row Held row h = (row, refl, h)
 with_its_row Row row h = tt
 
@@ -134,6 +141,16 @@ module _ (g : Graph) (l : IsLawful g) (given : Given) (fits : IsGiven g given) (
       let h : IsLawfulNode g r.0.width (Select a hi lo) = node_lawful g l given fits values s.id.0 r.0 r.1 (Select a hi lo) r.2 in
       let whole : x ≡ select (operand g values a) hi lo = e ∙ ap (λ (b : BitVector). select b hi lo) ey in
       placed r.0 x r.1 (arm g given values s.id.0 r.0 (Select a hi lo) x r.2 (ap (λ (b : BitVector). b.width) whole ∙ sym h.4) (ap (λ (b : BitVector). b.value) whole))
+
+  pub choice_step : (sel a b : NodeId) (y x : BitVector) → s.make ≡ Choice sel a b → y ≡ operand g values sel → x ≡ mux y (map (operand g values) (a ∷ b ∷ [])) → IsStep x
+  choice_step sel a b y x is ey e =
+      let r : IsMadeRow (Choice sel a b) (slice_get g.nodes s.id.0) = step_made g s (Choice sel a b) is_step is in
+      placed r.0 x r.1 (mux_arm g l given fits values s.id.0 r.0 r.1 sel (a ∷ b ∷ []) (a ∷ b ∷ []) y x r.2 refl ey e)
+
+  pub port_step : (port : ℕ) (x : BitVector) → s.make ≡ FromPort port → x ≡ get_or given.inputs port x → IsStep x
+  port_step port x is e =
+      let r : IsMadeRow (FromPort port) (slice_get g.nodes s.id.0) = step_made g s (FromPort port) is_step is in
+      placed r.0 x r.1 (input_arm g l given fits values s.id.0 r.0 r.1 port x r.2 e)
 
   pub held_step : (x : BitVector) → s.make ≡ Held → x ≡ get_or given.registers s.id.0 x → IsStep x
   held_step x is e =

@@ -1,7 +1,7 @@
 //! What makes the value of each node, in small steps.
 ghost use Rattle.std.specs.Prelude.{◌≡◌, slice_get, IfOk};
 ghost use Rattle.hc_signal.specs.Lawful.{IsLawfulNode};
-ghost use Rattle.hc_flatsim.specs.Plan.{make_of, plan_of, step_of};
+ghost use Rattle.hc_flatsim.specs.Plan.{choice_of, make_of, plan_of, step_of};
 
 use hc_fault::NoMemory;
 use hc_signal::{Circuit, Node, NodeId, NodeRow, Op2};
@@ -19,6 +19,10 @@ pub enum Make {
     Complement(NodeId),
     /// The bits of another node from `hi` down to `lo`.
     Part { a: NodeId, hi: u8, lo: u8 },
+    /// The second node where the first one is 0, and else the third.
+    Choice(NodeId, NodeId, NodeId),
+    /// The value of an input.
+    FromPort(u32),
     /// The node is a register.
     Held,
     /// All else: the row of the node tells.
@@ -33,7 +37,17 @@ pub struct Step {
 }
 
 // small, since each settling reads all steps
-const _: () = prove!(size_of::<Step>() <= 16);
+const _: () = prove!(size_of::<Step>() <= 20);
+
+/// A multiplexer of these cases.
+fn choice_of(sel: NodeId, cases: &[NodeId]) -> Make
+    ensures { result ≡ choice_of sel cases.now }
+{
+    match cases {
+        [a, b] => Make::Choice(sel, *a, *b),
+        _ => Make::Row,
+    }
+}
 
 /// What makes the value of a node.
 fn make_of(circuit: &Circuit, row: &NodeRow) -> Make
@@ -50,6 +64,8 @@ fn make_of(circuit: &Circuit, row: &NodeRow) -> Make
             hi: *hi as u8,
             lo: *lo as u8,
         },
+        Node::Mux { sel, cases } => choice_of(*sel, cases.as_slice()),
+        Node::Input { port } => Make::FromPort(*port),
         Node::Reg { .. } => Make::Held,
         _ => Make::Row,
     }

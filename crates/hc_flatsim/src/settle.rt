@@ -5,7 +5,7 @@ ghost use Rattle.hc_flatsim.specs.Plan.{plan_of, planned, step_of};
 ghost use Rattle.hc_flatsim.specs.Settling.{operand, settled, with_row, IsGiven};
 
 use crate::compute::compute;
-use crate::operands::{operand, two};
+use crate::operands::{mux, operand, two};
 use crate::plan::{Make, Step};
 use crate::words::Words;
 use hc_bits::Bits;
@@ -65,6 +65,11 @@ fn settle_step(
             let value = operand(circuit, values, a).select(hi as u32, lo as u32);
             values[place] = value;
         }
+        Make::Choice(sel, a, b) => {
+            let value = mux(circuit, values, operand(circuit, values, sel), &[a, b]);
+            values[place] = value;
+        }
+        Make::FromPort(port) => values[place] = inputs[port as usize],
         Make::Held => values[place] = registers[place],
         Make::Row => settle_node(circuit, registers, memories, inputs, values, step.id),
     }

@@ -290,13 +290,6 @@ fn takes_sigs(word: CallWord, count: usize) -> bool
     }
 }
 
-/// An empty list with room for so many items.
-fn room_for<T>(alloc: Global, count: usize) -> Result<ItemList<T>, Stop>
-    ensures { Returns (λ x. x) result (Some []) }
-{
-    Ok(ItemList::from_vec(Vec::with_capacity(alloc, count)?))
-}
-
 /// Signals with commas between them, one or more. Most calls have two.
 #[cycle(signal)]
 #[tactic(auto, unfolding(crate::specs::SigReading::sig_list, crate::specs::SigReading::more_sigs))]
@@ -307,7 +300,7 @@ fn sig_list(
 ) -> Result<(ItemList<Sig>, &[Token]), Stop>
     ensures { Returns (λ x. (x.0, x.1.now)) result (r.sig_list (r.signal_at depth) tokens.now) }
 {
-    let mut sigs = room_for(alloc, 2)?;
+    let mut sigs = ItemList::with_capacity(alloc, 2)?;
     let (first, mut rest) = signal(alloc, tokens, depth)?;
     sigs.push(first)?;
     let mut left = tokens.len();
@@ -350,7 +343,7 @@ fn listed(
 fn one_num(alloc: Global, tokens: &[Token], depth: usize) -> Result<(ItemList<Num>, &[Token]), Stop>
     ensures { Returns (λ x. (x.0, x.1.now)) result (r.one_num (reading.number_at depth) tokens.now) }
 {
-    let mut nums = room_for(alloc, 1)?;
+    let mut nums = ItemList::with_capacity(alloc, 1)?;
     let (number, rest) = number(alloc, tokens, depth)?;
     nums.push(number)?;
     Ok((nums, rest))
@@ -363,7 +356,7 @@ fn two_nums(
 ) -> Result<(ItemList<Num>, &[Token]), Stop>
     ensures { Returns (λ x. (x.0, x.1.now)) result (r.two_nums (reading.number_at depth) tokens.now) }
 {
-    let mut nums = room_for(alloc, 2)?;
+    let mut nums = ItemList::with_capacity(alloc, 2)?;
     let (first, rest) = number(alloc, tokens, depth)?;
     let rest = past_comma(rest)?;
     let (second, rest) = number(alloc, rest, depth)?;
@@ -381,7 +374,7 @@ fn sig_num(
 ) -> Result<(Sig, &[Token]), Stop>
     ensures { Returns (λ x. (x.0, x.1.now)) result (r.sig_num (r.signal_at depth) (reading.number_at depth) (r.ident_at depth) word tokens.now) }
 {
-    let mut sigs = room_for(alloc, 1)?;
+    let mut sigs = ItemList::with_capacity(alloc, 1)?;
     let (sig, rest) = signal(alloc, tokens, depth)?;
     let rest = past_comma(rest)?;
     let (nums, rest) = one_num(alloc, rest, depth)?;
@@ -398,7 +391,7 @@ fn sig_nums(
 ) -> Result<(Sig, &[Token]), Stop>
     ensures { Returns (λ x. (x.0, x.1.now)) result (r.sig_nums (r.signal_at depth) (reading.number_at depth) (r.ident_at depth) word tokens.now) }
 {
-    let mut sigs = room_for(alloc, 1)?;
+    let mut sigs = ItemList::with_capacity(alloc, 1)?;
     let (sig, rest) = signal(alloc, tokens, depth)?;
     let rest = past_comma(rest)?;
     let (nums, rest) = two_nums(alloc, rest, depth)?;

@@ -326,7 +326,7 @@ pub fn tokens(alloc: Global, line: &[u8]) -> Result<ItemList<Token>, Stop>
     requires short { length line.now < 2 ^ 63 }
     ensures value { Returns (λ ts. ts) result (spec.tokens line.now) }
 {
-    let mut tokens = ItemList::from_vec(Vec::with_capacity(alloc, USUAL)?);
+    let mut tokens = ItemList::with_capacity(alloc, USUAL)?;
     let mut rest = line;
     'cut: while let Some((first, after)) = rest.split_first() {
         if *first == b'#' {

@@ -6,8 +6,8 @@ use Rattle.hc_fault.specs.declared.fault.FaultKind.TheVariants.{Width, WidthMism
 use Rattle.hc_bits.specs.BitVector.{BitVector}
 use Rattle.hc_bits.specs.Catalogue.{find_kind, arity}
 use Rattle.hc_bits.specs.declared.kind.OpKind.{OpKind}
-use Rattle.hc_lines.specs.declared.tree.CallWord.{CallWord}
-use Rattle.hc_lines.specs.declared.tree.CallWord.TheVariants as word
+use Rattle.hc_sigtext.specs.declared.tree.CallWord.{CallWord}
+use Rattle.hc_sigtext.specs.declared.tree.CallWord.TheVariants as word
 use Rattle.hc_signal.specs.declared.signal.NodeId.{NodeId}
 use Rattle.hc_signal.specs.declared.signal.MemId.{MemId}
 use Rattle.hc_signal.specs.declared.signal.Op2.{Op2}

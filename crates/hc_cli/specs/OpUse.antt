@@ -2,8 +2,8 @@
 use Rattle.std.specs.Prelude.{ℕ, Bool, true, false, ◌||◌, List, map, Option, Some, None}
 use Rattle.std.specs.List.{list_any}
 use Rattle.hc_tokens.specs.declared.tree.Num.{Num}
-use Rattle.hc_lines.specs.declared.tree.Sig.{Sig, fold-Sig}
-use Rattle.hc_lines.specs.declared.tree.Sig.TheOpen.{Sig-F}
+use Rattle.hc_sigtext.specs.declared.tree.Sig.{Sig, fold-Sig}
+use Rattle.hc_sigtext.specs.declared.tree.Sig.TheOpen.{Sig-F}
 use Rattle.hc_lines.specs.declared.tree.Stmt.{Stmt}
 use Rattle.hc_lines.specs.declared.tree.What.TheOpen.{What-F, Stmt-F}
 use Rattle.hc_lines.specs.declared.tree.What.TheFolds.{fold-Stmt}

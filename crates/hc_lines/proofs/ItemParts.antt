@@ -5,8 +5,8 @@ use Rattle.hc_lines.specs.Grammar.{Tokens, most_open}
 use Rattle.hc_tokens.specs.Reading.{Read, go_on, choose}
 use Rattle.hc_lines.specs.LineReading.{items, all_items, past_end}
 use Rattle.hc_tokens.proofs.NumbersFound.{left_open, right_open}
-use Rattle.hc_lines.proofs.SigFound.{ends_sig}
-use Rattle.hc_lines.proofs.Fronts.{Front, joined, alone, got, go_on-some, some-first, some-second}
+use Rattle.hc_sigtext.proofs.SigFound.{ends_sig}
+use Rattle.hc_sigtext.proofs.Fronts.{Front, joined, alone, got, go_on-some, some-first, some-second}
 use Rattle.hc_lines.proofs.Parts.{Part, Last}
 
 -- parts one after the other

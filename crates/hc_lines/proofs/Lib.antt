@@ -1,4 +1,3 @@
-pub mod Fronts
 pub mod ItemParts
 pub mod LineLaws
 pub mod LineParts
@@ -6,8 +5,3 @@ pub mod LineSteps
 pub mod Lines
 pub mod Parts
 pub mod RegParts
-pub mod SigFound
-pub mod SigSound
-pub mod SigSteps
-pub mod SignalLaws
-pub mod SignalsEven

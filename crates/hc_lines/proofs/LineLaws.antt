@@ -4,8 +4,8 @@ use Rattle.std.specs.List.{list_all}
 use Rattle.std.proofs.lemmas.List.Sums.{AllPass-from_list_all, list_all-from_AllPass}
 use Rattle.hc_tokens.specs.declared.token.Token.TheVariants.{Word, Int, Sized, Operator, Mark}
 use Rattle.hc_tokens.specs.declared.tree.Num.{Num}
-use Rattle.hc_lines.specs.declared.tree.IdentText.{IdentText}
-use Rattle.hc_lines.specs.declared.tree.Sig.{Sig}
+use Rattle.hc_sigtext.specs.declared.tree.IdentText.{IdentText}
+use Rattle.hc_sigtext.specs.declared.tree.Sig.{Sig}
 use Rattle.hc_lines.specs.declared.tree.BenchValue.{BenchValue}
 use Rattle.hc_lines.specs.declared.tree.What.TheVariants as what
 use Rattle.hc_lines.specs.declared.tree.BenchWhat.TheVariants as bench_step
@@ -16,7 +16,7 @@ use Rattle.hc_tokens.specs.Grammar as nums
 use Rattle.hc_lines.specs.Grammar as g
 use Rattle.hc_lines.specs.Grammar.{Text, Tokens, Line, IsName, AreNames, IsNum, IsAtom, AreAtoms, IsIdent, IsSig, IsForm, IsSimple, IsStep, IsValue, most_open}
 use Rattle.hc_tokens.specs.Reading.{number_at}
-use Rattle.hc_lines.specs.SigReading.{bind, ident_at, signal_at}
+use Rattle.hc_sigtext.specs.SigReading.{bind, ident_at, signal_at}
 use Rattle.hc_lines.specs.LineReading as r
 use Rattle.hc_lines.specs.LineReading.{seq, atom_at, all_items, past_end, written, line_at, line_by}
 use Rattle.hc_lines.proofs.Parts.{Last, Then, then_last, ends, line_found, line_sound}

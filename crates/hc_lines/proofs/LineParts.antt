@@ -5,25 +5,26 @@ use Rattle.hc_tokens.specs.declared.token.Token.TheVariants.{Word, Int, Sized, O
 use Rattle.hc_tokens.specs.declared.token.Mark.TheVariants as mark
 use Rattle.hc_tokens.specs.declared.tree.NumOp.TheVariants as num_op
 use Rattle.hc_tokens.specs.declared.tree.Num.{Num}
-use Rattle.hc_lines.specs.declared.tree.IdentText.{IdentText}
-use Rattle.hc_lines.specs.declared.tree.Sig.{Sig}
+use Rattle.hc_sigtext.specs.declared.tree.IdentText.{IdentText}
+use Rattle.hc_sigtext.specs.declared.tree.Sig.{Sig}
 use Rattle.hc_lines.specs.declared.tree.BenchValue.{BenchValue}
 use Rattle.hc_lines.specs.declared.tree.BenchValue.TheVariants as value
 use Rattle.hc_tokens.specs.Words.{is_name}
 use Rattle.hc_tokens.specs.Grammar as nums
 use Rattle.hc_tokens.specs.Grammar.{Spells, Part as NumPart, Atom, Whole}
+use Rattle.hc_sigtext.specs.Grammar as signals
 use Rattle.hc_lines.specs.Grammar as g
 use Rattle.hc_lines.specs.Grammar.{Text, Tokens, IsName, IsNum, IsAtom, IsIdent, IsSig, IsValue, most_open}
 use Rattle.hc_tokens.specs.Reading.{inside, number_at, refuse}
-use Rattle.hc_lines.specs.SigReading.{ident_at, signal_at}
+use Rattle.hc_sigtext.specs.SigReading.{ident_at, signal_at}
 use Rattle.hc_lines.specs.LineReading as r
 use Rattle.hc_lines.specs.LineReading.{atom_at}
 use Rattle.hc_tokens.proofs.NumbersFound.{reads, balanced, number-read}
 use Rattle.hc_tokens.proofs.NumbersSound.{number-sound, atom-sound, refuses, closes}
-use Rattle.hc_lines.proofs.SignalsEven.{Even, ident_even, sig_even}
-use Rattle.hc_lines.proofs.SigFound.{ends_sig, ends-no_index, ident_found, sig_found}
-use Rattle.hc_lines.proofs.SigSound.{ident_sound, signal_sound}
-use Rattle.hc_lines.proofs.Fronts.{Front, Sound, of_number, moved, alone, got, cond-some}
+use Rattle.hc_sigtext.proofs.SignalsEven.{Even, ident_even, sig_even}
+use Rattle.hc_sigtext.proofs.SigFound.{ends_sig, ends-no_index, ident_found, sig_found}
+use Rattle.hc_sigtext.proofs.SigSound.{ident_sound, signal_sound}
+use Rattle.hc_sigtext.proofs.Fronts.{Front, Sound, of_number, moved, alone, got, cond-some}
 use Rattle.hc_lines.proofs.Parts.{Part, Last}
 
 -- ---- starts
@@ -43,16 +44,16 @@ spells_start (nums.plain h s) rest = spells_start s rest
 spells_start (nums.comparison {ts = ts} {us = us} o h k l x y) rest = ap ends_sig (append_assoc ts (Operator o ∷ us) rest) ∙ spells_start x ((Operator o ∷ us) ++ rest)
 
 ident_start : {ts : Tokens} {i : IdentText} → IsIdent ts i → (rest : Tokens) → ends_sig (ts ++ rest) ≡ true
-ident_start (g.bare w h) rest = refl
-ident_start (g.indexed w h s) rest = refl
+ident_start (signals.bare w h) rest = refl
+ident_start (signals.indexed w h s) rest = refl
 
 sig_start : {ts : Tokens} {s : Sig} → IsSig ts s → (rest : Tokens) → ends_sig (ts ++ rest) ≡ true
-sig_start (g.sized w v) rest = refl
-sig_start (g.ident i) rest = ident_start i rest
-sig_start (g.port {ts} p h i) rest = ap ends_sig (append_assoc ts (Mark mark.Dot ∷ Word p ∷ []) rest) ∙ ident_start i ((Mark mark.Dot ∷ Word p ∷ []) ++ rest)
-sig_start (g.call w h s) rest = refl
-sig_start (g.read i s) rest = refl
-sig_start (g.op k h s) rest = refl
+sig_start (signals.sized w v) rest = refl
+sig_start (signals.ident i) rest = ident_start i rest
+sig_start (signals.port {ts} p h i) rest = ap ends_sig (append_assoc ts (Mark mark.Dot ∷ Word p ∷ []) rest) ∙ ident_start i ((Mark mark.Dot ∷ Word p ∷ []) ++ rest)
+sig_start (signals.call w h s) rest = refl
+sig_start (signals.read i s) rest = refl
+sig_start (signals.op k h s) rest = refl
 
 -- ---- parts
 

@@ -3,8 +3,8 @@ use Rattle.std.proofs.Common.{◌≡◌, ℕ, ◌+◌, ◌≤◌, Bool, true, fa
 use Rattle.hc_tokens.specs.declared.token.Token.TheVariants.{Word, Int, Sized, Operator, Mark}
 use Rattle.hc_tokens.specs.declared.token.Mark.TheVariants as mark
 use Rattle.hc_tokens.specs.declared.tree.Num.{Num}
-use Rattle.hc_lines.specs.declared.tree.IdentText.{IdentText}
-use Rattle.hc_lines.specs.declared.tree.Sig.{Sig}
+use Rattle.hc_sigtext.specs.declared.tree.IdentText.{IdentText}
+use Rattle.hc_sigtext.specs.declared.tree.Sig.{Sig}
 use Rattle.hc_lines.specs.declared.tree.What.{What}
 use Rattle.hc_lines.specs.declared.tree.What.TheVariants as what
 use Rattle.hc_lines.specs.declared.tree.BenchWhat.{BenchWhat}
@@ -15,15 +15,15 @@ use Rattle.hc_tokens.specs.Grammar as nums
 use Rattle.hc_lines.specs.Grammar as g
 use Rattle.hc_lines.specs.Grammar.{Text, Tokens, Line, IsName, IsAtom, AreAtoms, IsIdent, IsSig, AreConns, IsEnable, IsClear, IsInit, IsForm, IsSimple, IsStep, IsLine, most_open}
 use Rattle.hc_tokens.specs.Reading.{go_on}
-use Rattle.hc_lines.specs.SigReading.{bind, ident_at, signal_at}
+use Rattle.hc_sigtext.specs.SigReading.{bind, ident_at, signal_at}
 use Rattle.hc_lines.specs.LineReading as r
 use Rattle.hc_lines.specs.LineReading.{seq, atom_at, all_items, past_end, past_colon, past_equals, written, line_at, line_by}
 use Rattle.hc_tokens.proofs.NumbersFound.{open_after, left_open, right_open}
 use Rattle.hc_tokens.proofs.NumbersSound.{same_bytes-equal}
-use Rattle.hc_lines.proofs.SignalsEven.{sig_even}
-use Rattle.hc_lines.proofs.SigFound.{ends_sig, sig_found}
-use Rattle.hc_lines.proofs.SigSound.{signal_sound}
-use Rattle.hc_lines.proofs.Fronts.{Front, Sound, joined, moved, mapped, got, go_on-some, bind-some, some-first, some-second}
+use Rattle.hc_sigtext.proofs.SignalsEven.{sig_even}
+use Rattle.hc_sigtext.proofs.SigFound.{ends_sig, sig_found}
+use Rattle.hc_sigtext.proofs.SigSound.{signal_sound}
+use Rattle.hc_sigtext.proofs.Fronts.{Front, Sound, joined, moved, mapped, got, go_on-some, bind-some, some-first, some-second}
 use Rattle.hc_lines.proofs.Parts.{Part, Last, Then, then_last, line_found, line_sound}
 use Rattle.hc_lines.proofs.LineParts.{ident_part, sig_part, atom_part, name_part, Named}
 use Rattle.hc_lines.proofs.ItemParts.{AreItems, items_last, all_found, all_took}
@@ -173,7 +173,7 @@ Args ts p = (us : Tokens) × (vs : Tokens) × (ts ≡ us ++ (Mark mark.Colon ∷
 
 atoms_even : (ns : List Num) (ts : Tokens) → AreItems IsAtom ts ns → (o : ℕ) → open_after o ts ≡ o
 atoms_even [] ts h o = subst (λ us. open_after o us ≡ o) (sym h) refl
-atoms_even (n ∷ ns) ts h o = subst (λ us. open_after o us ≡ o) (sym h.2) (Rattle.hc_lines.proofs.Fronts.even_join h.0 h.1 o (atom_part.even h.0 n h.3 o) (atoms_even ns h.1 h.4 o))
+atoms_even (n ∷ ns) ts h o = subst (λ us. open_after o us ≡ o) (sym h.2) (Rattle.hc_sigtext.proofs.Fronts.even_join h.0 h.1 o (atom_part.even h.0 n h.3 o) (atoms_even ns h.1 h.4 o))
 
 abbrev args_at : ℕ → Tokens → Option ((List Num × List (Text × Sig)) × Tokens)
 args_at d = seq (all_items past_colon (atom_at d)) (all_items past_end (r.conn d))

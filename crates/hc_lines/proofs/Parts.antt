@@ -5,9 +5,9 @@ use Rattle.hc_tokens.specs.Reading.{Read, go_on}
 use Rattle.hc_lines.specs.LineReading.{seq, at_end, whole_of}
 use Rattle.hc_tokens.proofs.NumbersFound.{open_after, left_open, right_open}
 use Rattle.hc_tokens.proofs.NumbersSound.{append-nil}
-use Rattle.hc_lines.proofs.SignalsEven.{Even}
-use Rattle.hc_lines.proofs.SigFound.{ends_sig}
-use Rattle.hc_lines.proofs.Fronts.{Front, Sound, Neutral, joined, moved, mapped, got, go_on-some, some-first, some-second}
+use Rattle.hc_sigtext.proofs.SignalsEven.{Even}
+use Rattle.hc_sigtext.proofs.SigFound.{ends_sig}
+use Rattle.hc_sigtext.proofs.Fronts.{Front, Sound, Neutral, joined, moved, mapped, got, go_on-some, some-first, some-second}
 
 -- what a relation says is read, whatever follows that ends a signal, and what is read is so
 pub record Part {A : Type 0} (P : Tokens → A → Type 0) (R : ℕ → Read A) : Type 0 where
@@ -51,7 +51,7 @@ module _ {A B : Type 0} (P : Tokens → A → Type 0) (Q : Tokens → B → Type
   then_part x y = record {
     found = λ ts p h d o l rest e. seq_found x y ts p h d o l rest e;
     sound = seq_sound x.sound y.sound;
-    even = λ ts p h o. subst (λ us. open_after o us ≡ o) (sym h.2) (Rattle.hc_lines.proofs.Fronts.even_join h.0 h.1 o (x.even h.0 p.0 h.3 o) (y.even h.1 p.1 h.4 o));
+    even = λ ts p h o. subst (λ us. open_after o us ≡ o) (sym h.2) (Rattle.hc_sigtext.proofs.Fronts.even_join h.0 h.1 o (x.even h.0 p.0 h.3 o) (y.even h.1 p.1 h.4 o));
     starts = λ ts p h rest e. subst (λ us. ends_sig (us ++ rest) ≡ true) (sym h.2) (subst (λ us. ends_sig us ≡ true) (sym (append_assoc h.0 h.1 rest)) (x.starts h.0 p.0 h.3 (h.1 ++ rest) (y.starts h.1 p.1 h.4 rest e)));
   }
     where

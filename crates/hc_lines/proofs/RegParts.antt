@@ -2,17 +2,17 @@
 use Rattle.std.proofs.Common.{◌≡◌, ℕ, ◌+◌, ◌≤◌, Bool, true, false, [], ◌∷◌, ◌++◌, Option, Some, None, codes, refl, sym, ◌∙◌, ap, subst, arith}
 use Rattle.hc_tokens.specs.declared.token.Token.TheVariants.{Word, Int, Sized, Operator, Mark}
 use Rattle.hc_tokens.specs.declared.tree.Num.{Num}
-use Rattle.hc_lines.specs.declared.tree.Sig.{Sig}
+use Rattle.hc_sigtext.specs.declared.tree.Sig.{Sig}
 use Rattle.hc_tokens.specs.Tokens.{same_bytes}
 use Rattle.hc_lines.specs.Grammar.{Text, Tokens, IsAtom, IsSig, most_open}
 use Rattle.hc_tokens.specs.Reading.{Read, go_on}
-use Rattle.hc_lines.specs.SigReading.{signal_at}
+use Rattle.hc_sigtext.specs.SigReading.{signal_at}
 use Rattle.hc_lines.specs.LineReading as r
 use Rattle.hc_lines.specs.LineReading.{seq, optional, atom_at, after_word}
 use Rattle.hc_tokens.proofs.NumbersFound.{left_open, right_open}
 use Rattle.hc_tokens.proofs.NumbersSound.{same_bytes-equal}
-use Rattle.hc_lines.proofs.SigFound.{ends_sig}
-use Rattle.hc_lines.proofs.Fronts.{Front, Sound, led, moved, alone, got, go_on-some}
+use Rattle.hc_sigtext.proofs.SigFound.{ends_sig}
+use Rattle.hc_sigtext.proofs.Fronts.{Front, Sound, led, moved, alone, got, go_on-some}
 use Rattle.hc_lines.proofs.Parts.{Part, Last, Then, then_part, ends, seq_sound}
 use Rattle.hc_lines.proofs.LineParts.{sig_part, atom_part}
 

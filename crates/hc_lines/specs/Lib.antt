@@ -1,4 +1,2 @@
-pub mod CallWords
 pub mod Grammar
 pub mod LineReading
-pub mod SigReading

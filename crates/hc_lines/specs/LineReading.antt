@@ -4,7 +4,7 @@ use Rattle.hc_tokens.specs.declared.token.Token.TheVariants.{Word, Int, Sized, O
 use Rattle.hc_tokens.specs.declared.token.Mark.TheVariants as mark
 use Rattle.hc_tokens.specs.declared.tree.NumOp.TheVariants as num_op
 use Rattle.hc_tokens.specs.declared.tree.Num.{Num}
-use Rattle.hc_lines.specs.declared.tree.Sig.{Sig}
+use Rattle.hc_sigtext.specs.declared.tree.Sig.{Sig}
 use Rattle.hc_lines.specs.declared.tree.What.TheVariants as what
 use Rattle.hc_lines.specs.declared.tree.BenchValue.{BenchValue}
 use Rattle.hc_lines.specs.declared.tree.BenchValue.TheVariants as value
@@ -16,7 +16,7 @@ use Rattle.hc_tokens.specs.Words.{is_name}
 use Rattle.hc_lines.specs.Grammar as g
 use Rattle.hc_lines.specs.Grammar.{Text, Tokens, Line}
 use Rattle.hc_tokens.specs.Reading.{Read, go_on, choose, inside, number_at, atom}
-use Rattle.hc_lines.specs.SigReading.{bind, ident_at, signal_at}
+use Rattle.hc_sigtext.specs.SigReading.{bind, ident_at, signal_at}
 
 -- ---- parts
 

@@ -3,14 +3,14 @@ ghost use Rattle.std.specs.Option.{option_map};
 ghost use Rattle.hc_tokens.specs.Returns.{Returns};
 ghost use Rattle.hc_tokens.specs.Tokens.{same_bytes};
 ghost use Rattle.hc_tokens.specs.Reading as reading;
-ghost use Rattle.hc_lines.specs.SigReading as signals;
+ghost use Rattle.hc_sigtext.specs.SigReading as signals;
 ghost use Rattle.hc_lines.specs.LineReading as r;
 ghost use Rattle.hc_lines.specs.Grammar as g;
 ghost use Rattle.hc_lines.specs.declared.tree.BenchWhat.TheVariants as bench_step;
 
-use crate::signal::{ident, signal};
-use crate::tree::{BenchValue, BenchWhat, Sig, What};
+use crate::tree::{BenchValue, BenchWhat, What};
 use hc_fault::{ItemList, Name};
+use hc_sigtext::{Sig, ident, signal};
 use hc_tokens::{Mark, Num, NumOp, Stop, Token, atom, is_name, number};
 use sqlite_items::Boxed;
 use std::alloc::Global;

@@ -4,7 +4,7 @@ use Rattle.std.specs.Ordering.{int_eq}
 use Rattle.hc_fault.specs.declared.fault.FaultKind.{FaultKind}
 use Rattle.hc_fault.specs.declared.fault.FaultKind.TheVariants.{TooManyStatements}
 use Rattle.hc_tokens.specs.declared.tree.Num.{Num}
-use Rattle.hc_lines.specs.declared.tree.Sig.{Sig}
+use Rattle.hc_sigtext.specs.declared.tree.Sig.{Sig}
 use Rattle.hc_lines.specs.declared.tree.What.TheOpen.{What-F, Stmt-F}
 use Rattle.hc_lines.specs.declared.tree.What.TheFolds.{fold-Stmt}
 use Rattle.hc_lines.specs.declared.tree.Stmt.{Stmt}

@@ -2,7 +2,7 @@
 use Rattle.std.proofs.Common.{◌≡◌, ℕ, suc, ◌+◌, ◌<◌, List, [], ◌∷◌, ◌++◌, map, drop, length, get_or, sym, ap, ◌∙◌, add-one, drop-cons}
 use Rattle.std.specs.Prelude.{Result, Ok}
 use Rattle.hc_fault.specs.declared.fault.FaultKind.{FaultKind}
-use Rattle.hc_lines.specs.declared.tree.Sig.{Sig}
+use Rattle.hc_sigtext.specs.declared.tree.Sig.{Sig}
 use Rattle.hc_num.specs.Value.{Bindings}
 use Rattle.hc_signal.specs.declared.signal.NodeId.{NodeId}
 use Rattle.hc_signal.specs.Graph.{Graph}

@@ -3,8 +3,8 @@ use Rattle.std.specs.Prelude.{◌==◌, List, [], ◌∷◌, length, ℤ}
 use Rattle.hc_fault.specs.declared.fault.FaultKind.TheVariants.{Syntax, UnknownOp}
 use Rattle.hc_bits.specs.declared.kind.OpKind.{OpKind}
 use Rattle.hc_bits.specs.Catalogue.{arity}
-use Rattle.hc_lines.specs.declared.tree.CallWord.{CallWord}
-use Rattle.hc_lines.specs.declared.tree.CallWord.TheVariants as word
+use Rattle.hc_sigtext.specs.declared.tree.CallWord.{CallWord}
+use Rattle.hc_sigtext.specs.declared.tree.CallWord.TheVariants as word
 use Rattle.hc_signal.specs.declared.signal.NodeId.{NodeId}
 use Rattle.hc_signal.specs.declared.signal.Op2.TheVariants as op2
 use Rattle.hc_unfold.specs.Drawing.{Draws, ◌>>=◌, ◌>>◌, fails, given, rule, number_bits, constant, two, invert, mux, cat, select, operation}

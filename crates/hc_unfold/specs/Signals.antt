@@ -1,10 +1,10 @@
 -- Signals with every number put in.
 use Rattle.std.specs.Prelude.{ℕ, List, [], ◌∷◌, map, Option, option_map, ℤ}
-use Rattle.hc_lines.specs.declared.tree.CallWord.{CallWord}
+use Rattle.hc_sigtext.specs.declared.tree.CallWord.{CallWord}
 use Rattle.hc_tokens.specs.declared.tree.Num.{Num}
-use Rattle.hc_lines.specs.declared.tree.IdentText.{IdentText}
-use Rattle.hc_lines.specs.declared.tree.Sig.{Sig, fold-Sig}
-use Rattle.hc_lines.specs.declared.tree.Sig.TheOpen.{Sig-F}
+use Rattle.hc_sigtext.specs.declared.tree.IdentText.{IdentText}
+use Rattle.hc_sigtext.specs.declared.tree.Sig.{Sig, fold-Sig}
+use Rattle.hc_sigtext.specs.declared.tree.Sig.TheOpen.{Sig-F}
 use Rattle.hc_num.specs.Value.{Bindings, Outcome, value}
 
 -- a name, with the value of its index where it has one

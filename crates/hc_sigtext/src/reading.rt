@@ -3,9 +3,9 @@ ghost use Rattle.std.specs.Option.{option_map};
 ghost use Rattle.hc_tokens.specs.Returns.{Returns};
 ghost use Rattle.hc_tokens.specs.Tokens.{same_bytes};
 ghost use Rattle.hc_tokens.specs.Words as words;
-ghost use Rattle.hc_lines.specs.CallWords as call_words;
+ghost use Rattle.hc_sigtext.specs.CallWords as call_words;
 ghost use Rattle.hc_tokens.specs.Reading as reading;
-ghost use Rattle.hc_lines.specs.SigReading as r;
+ghost use Rattle.hc_sigtext.specs.SigReading as r;
 
 use crate::tree::{CallWord, IdentText, Sig};
 use hc_fault::{ItemList, Name};
@@ -14,7 +14,7 @@ use sqlite_items::Boxed;
 use std::alloc::Global;
 
 /// The tokens after a comma, where one comes next.
-pub(crate) fn next_comma(tokens: &[Token]) -> Option<&[Token]>
+pub fn next_comma(tokens: &[Token]) -> Option<&[Token]>
     ensures { option_map (λ q. q.now) result ≡ r.past_comma tokens.now }
 {
     match tokens {
@@ -23,7 +23,7 @@ pub(crate) fn next_comma(tokens: &[Token]) -> Option<&[Token]>
     }
 }
 
-pub(crate) fn past_comma(tokens: &[Token]) -> Result<&[Token], Stop>
+pub fn past_comma(tokens: &[Token]) -> Result<&[Token], Stop>
     ensures { Returns (λ x. x.now) result (r.past_comma tokens.now) }
 {
     match tokens {
@@ -86,7 +86,7 @@ fn ident_by(
 }
 
 /// A name, with an index if it has one.
-pub(crate) fn ident(
+pub fn ident(
     alloc: Global,
     tokens: &[Token],
     depth: usize,
@@ -155,7 +155,7 @@ const WORDS: [CallWord; 28] = [
 ];
 
 /// How a call word is written.
-pub(crate) fn spelling(word: CallWord) -> &'static [u8]
+pub fn spelling(word: CallWord) -> &'static [u8]
     ensures { result.now ≡ call_words.spelling word }
 {
     match word {
@@ -558,7 +558,7 @@ fn word_sig<'a>(
 /// A signal at the front of the tokens, with at most `depth` brackets open, and the tokens after it.
 #[cycle(signal)]
 #[tactic(auto, unfolding(crate::specs::SigReading::signal))]
-pub(crate) fn signal(alloc: Global, tokens: &[Token], depth: usize) -> Result<(Sig, &[Token]), Stop>
+pub fn signal(alloc: Global, tokens: &[Token], depth: usize) -> Result<(Sig, &[Token]), Stop>
     ensures { Returns (λ x. (x.0, x.1.now)) result (r.signal_at depth tokens.now) }
 {
     match tokens {

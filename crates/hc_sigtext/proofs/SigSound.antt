@@ -3,29 +3,29 @@ use Rattle.std.proofs.Common.{◌≡◌, ℕ, zero, suc, Bool, true, false, cond
 use Rattle.std.proofs.lemmas.Bool.Decides.{nat_tests}
 use Rattle.hc_tokens.specs.declared.token.Token.TheVariants.{Word, Int, Sized, Operator, Mark}
 use Rattle.hc_tokens.specs.declared.token.Mark.TheVariants as mark
-use Rattle.hc_lines.specs.declared.tree.CallWord.{CallWord}
-use Rattle.hc_lines.specs.declared.tree.CallWord.TheVariants as word
+use Rattle.hc_sigtext.specs.declared.tree.CallWord.{CallWord}
+use Rattle.hc_sigtext.specs.declared.tree.CallWord.TheVariants as word
 use Rattle.hc_tokens.specs.declared.tree.Num.{Num}
-use Rattle.hc_lines.specs.declared.tree.IdentText.{IdentText}
-use Rattle.hc_lines.specs.declared.tree.Sig.{Sig}
-use Rattle.hc_lines.specs.declared.tree.Sig.TheVariants as sig
-use Rattle.hc_lines.specs.declared.signal.Head.{Head}
-use Rattle.hc_lines.specs.declared.signal.Head.TheVariants as head
-use Rattle.hc_lines.specs.declared.signal.Shape.{Shape}
-use Rattle.hc_lines.specs.declared.signal.Shape.TheVariants as shape
+use Rattle.hc_sigtext.specs.declared.tree.IdentText.{IdentText}
+use Rattle.hc_sigtext.specs.declared.tree.Sig.{Sig}
+use Rattle.hc_sigtext.specs.declared.tree.Sig.TheVariants as sig
+use Rattle.hc_sigtext.specs.declared.reading.Head.{Head}
+use Rattle.hc_sigtext.specs.declared.reading.Head.TheVariants as head
+use Rattle.hc_sigtext.specs.declared.reading.Shape.{Shape}
+use Rattle.hc_sigtext.specs.declared.reading.Shape.TheVariants as shape
 use Rattle.hc_tokens.specs.Tokens.{same_bytes}
 use Rattle.hc_tokens.specs.Words.{is_name}
-use Rattle.hc_lines.specs.CallWords.{spelling}
+use Rattle.hc_sigtext.specs.CallWords.{spelling}
 use Rattle.hc_tokens.specs.Grammar as nums
 use Rattle.hc_tokens.specs.Grammar.{Spells, Whole}
-use Rattle.hc_lines.specs.Grammar as g
-use Rattle.hc_lines.specs.Grammar.{Text, Tokens, IsNum, IsName, IsIdent, IsSig, AreSigs, AreParts, AreNums, Takes, most_open, in_round}
+use Rattle.hc_sigtext.specs.Grammar as g
+use Rattle.hc_sigtext.specs.Grammar.{Text, Tokens, IsNum, IsName, IsIdent, IsSig, AreSigs, AreParts, AreNums, Takes, most_open, in_round}
 use Rattle.hc_tokens.specs.Reading.{Read, go_on, choose, inside, number_at}
-use Rattle.hc_lines.specs.SigReading as r
-use Rattle.hc_lines.specs.SigReading.{bind, past_comma, past_round, past_square, ident_at, signal_at, body_at, bodies_at, more_sigs, sig_list, shape_of, takes_sigs}
+use Rattle.hc_sigtext.specs.SigReading as r
+use Rattle.hc_sigtext.specs.SigReading.{bind, past_comma, past_round, past_square, ident_at, signal_at, body_at, bodies_at, more_sigs, sig_list, shape_of, takes_sigs}
 use Rattle.hc_tokens.proofs.NumbersSound.{number-sound, same_bytes-equal}
-use Rattle.hc_lines.proofs.SigFound.{TakesShape, from_sigs, sig_list-from}
-use Rattle.hc_lines.proofs.Fronts.{Front, Sound, Neutral, of_number, led, joined, ended, rounded, squared, mapped, alone, moved, got, go_on-some, bind-some, cond-some, some-first, some-second}
+use Rattle.hc_sigtext.proofs.SigFound.{TakesShape, from_sigs, sig_list-from}
+use Rattle.hc_sigtext.proofs.Fronts.{Front, Sound, Neutral, of_number, led, joined, ended, rounded, squared, mapped, alone, moved, got, go_on-some, bind-some, cond-some, some-first, some-second}
 
 -- ---- marks
 

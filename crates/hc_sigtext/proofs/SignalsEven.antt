@@ -3,11 +3,11 @@ use Rattle.std.proofs.Common.{◌≡◌, ℕ, ◌+◌, ◌-◌, List, [], ◌∷
 use Rattle.hc_tokens.specs.declared.token.Token.TheVariants.{Mark}
 use Rattle.hc_tokens.specs.declared.token.Mark.TheVariants as mark
 use Rattle.hc_tokens.specs.declared.tree.Num.{Num}
-use Rattle.hc_lines.specs.declared.tree.IdentText.{IdentText}
-use Rattle.hc_lines.specs.declared.tree.Sig.{Sig}
+use Rattle.hc_sigtext.specs.declared.tree.IdentText.{IdentText}
+use Rattle.hc_sigtext.specs.declared.tree.Sig.{Sig}
 use Rattle.hc_tokens.specs.Grammar as nums
-use Rattle.hc_lines.specs.Grammar as g
-use Rattle.hc_lines.specs.Grammar.{Tokens, IsIdent, IsSig, AreSigs, AreParts, AreNums, in_round}
+use Rattle.hc_sigtext.specs.Grammar as g
+use Rattle.hc_sigtext.specs.Grammar.{Tokens, IsIdent, IsSig, AreSigs, AreParts, AreNums, in_round}
 use Rattle.hc_tokens.proofs.NumbersFound.{open_after, open_after-append, balanced, round_after}
 
 abbrev pub Even : Tokens → Type 0

@@ -1,5 +1,5 @@
-use Rattle.hc_lines.proofs.SignalLaws.{signal-read, signal-spelled, one_signal}
-use Rattle.hc_lines.proofs.laws.signals_are_read.Goals as goal
+use Rattle.hc_sigtext.proofs.SignalLaws.{signal-read, signal-spelled, one_signal}
+use Rattle.hc_sigtext.proofs.laws.signals_are_read.Goals as goal
 
 pub returns-clause-read : goal.returns-clause-read
 returns-clause-read c = signal-read

@@ -2,20 +2,20 @@
 use Rattle.std.specs.Prelude.{ℕ, zero, suc, Bool, true, false, cond, nat_eq, nat_le, List, [], ◌∷◌, ◌++◌, length, Option, Some, None, codes}
 use Rattle.hc_tokens.specs.declared.token.Token.TheVariants.{Word, Sized, Mark}
 use Rattle.hc_tokens.specs.declared.token.Mark.TheVariants as mark
-use Rattle.hc_lines.specs.declared.tree.CallWord.{CallWord}
-use Rattle.hc_lines.specs.declared.tree.CallWord.TheVariants as word
+use Rattle.hc_sigtext.specs.declared.tree.CallWord.{CallWord}
+use Rattle.hc_sigtext.specs.declared.tree.CallWord.TheVariants as word
 use Rattle.hc_tokens.specs.declared.tree.Num.{Num}
-use Rattle.hc_lines.specs.declared.tree.IdentText.{IdentText}
-use Rattle.hc_lines.specs.declared.tree.Sig.{Sig}
-use Rattle.hc_lines.specs.declared.tree.Sig.TheVariants as sig
-use Rattle.hc_lines.specs.declared.signal.Head.{Head}
-use Rattle.hc_lines.specs.declared.signal.Head.TheVariants as head
-use Rattle.hc_lines.specs.declared.signal.Shape.{Shape}
-use Rattle.hc_lines.specs.declared.signal.Shape.TheVariants as shape
+use Rattle.hc_sigtext.specs.declared.tree.IdentText.{IdentText}
+use Rattle.hc_sigtext.specs.declared.tree.Sig.{Sig}
+use Rattle.hc_sigtext.specs.declared.tree.Sig.TheVariants as sig
+use Rattle.hc_sigtext.specs.declared.reading.Head.{Head}
+use Rattle.hc_sigtext.specs.declared.reading.Head.TheVariants as head
+use Rattle.hc_sigtext.specs.declared.reading.Shape.{Shape}
+use Rattle.hc_sigtext.specs.declared.reading.Shape.TheVariants as shape
 use Rattle.hc_tokens.specs.Tokens.{same_bytes}
 use Rattle.hc_tokens.specs.Words.{is_name}
-use Rattle.hc_lines.specs.CallWords.{spelling}
-use Rattle.hc_lines.specs.Grammar.{Text, Tokens}
+use Rattle.hc_sigtext.specs.CallWords.{spelling}
+use Rattle.hc_sigtext.specs.Grammar.{Text, Tokens}
 use Rattle.hc_tokens.specs.Reading.{Read, go_on, choose, inside, number_at}
 
 abbrev pub bind : {A B : Type 0} → Option A → (A → Option B) → Option B

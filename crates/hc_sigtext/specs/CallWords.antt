@@ -1,7 +1,7 @@
 -- How the words of calls are written.
 use Rattle.std.specs.Prelude.{ℕ, List, codes}
-use Rattle.hc_lines.specs.declared.tree.CallWord.{CallWord}
-use Rattle.hc_lines.specs.declared.tree.CallWord.TheVariants as word
+use Rattle.hc_sigtext.specs.declared.tree.CallWord.{CallWord}
+use Rattle.hc_sigtext.specs.declared.tree.CallWord.TheVariants as word
 
 abbrev pub spelling : CallWord → List ℕ
 spelling word.Const = codes "const"

@@ -4,27 +4,27 @@ use Rattle.std.proofs.lemmas.Bool.Decides.{nat_tests}
 use Rattle.hc_tokens.specs.declared.token.Token.TheVariants.{Word, Int, Sized, Operator, Mark}
 use Rattle.hc_tokens.specs.declared.token.Mark.{Mark as Mark_}
 use Rattle.hc_tokens.specs.declared.token.Mark.TheVariants as mark
-use Rattle.hc_lines.specs.declared.tree.CallWord.{CallWord}
-use Rattle.hc_lines.specs.declared.tree.CallWord.TheVariants as word
+use Rattle.hc_sigtext.specs.declared.tree.CallWord.{CallWord}
+use Rattle.hc_sigtext.specs.declared.tree.CallWord.TheVariants as word
 use Rattle.hc_tokens.specs.declared.tree.Num.{Num}
-use Rattle.hc_lines.specs.declared.tree.IdentText.{IdentText}
-use Rattle.hc_lines.specs.declared.tree.Sig.{Sig}
-use Rattle.hc_lines.specs.declared.tree.Sig.TheVariants as sig
-use Rattle.hc_lines.specs.declared.signal.Head.{Head}
-use Rattle.hc_lines.specs.declared.signal.Head.TheVariants as head
-use Rattle.hc_lines.specs.declared.signal.Shape.{Shape}
-use Rattle.hc_lines.specs.declared.signal.Shape.TheVariants as shape
+use Rattle.hc_sigtext.specs.declared.tree.IdentText.{IdentText}
+use Rattle.hc_sigtext.specs.declared.tree.Sig.{Sig}
+use Rattle.hc_sigtext.specs.declared.tree.Sig.TheVariants as sig
+use Rattle.hc_sigtext.specs.declared.reading.Head.{Head}
+use Rattle.hc_sigtext.specs.declared.reading.Head.TheVariants as head
+use Rattle.hc_sigtext.specs.declared.reading.Shape.{Shape}
+use Rattle.hc_sigtext.specs.declared.reading.Shape.TheVariants as shape
 use Rattle.hc_tokens.specs.Tokens.{same_bytes}
 use Rattle.hc_tokens.specs.Words.{is_name, call_words}
-use Rattle.hc_lines.specs.CallWords.{spelling}
+use Rattle.hc_sigtext.specs.CallWords.{spelling}
 use Rattle.hc_tokens.specs.Grammar as nums
-use Rattle.hc_lines.specs.Grammar as g
-use Rattle.hc_lines.specs.Grammar.{Text, Tokens, IsNum, IsIdent, IsSig, AreSigs, AreParts, AreNums, Takes, most_open, in_round}
+use Rattle.hc_sigtext.specs.Grammar as g
+use Rattle.hc_sigtext.specs.Grammar.{Text, Tokens, IsNum, IsIdent, IsSig, AreSigs, AreParts, AreNums, Takes, most_open, in_round}
 use Rattle.hc_tokens.specs.Reading.{Read, go_on, choose, inside, number_at}
-use Rattle.hc_lines.specs.SigReading as r
-use Rattle.hc_lines.specs.SigReading.{bind, past_comma, past_round, past_square, ident_at, signal_at, body_at, bodies_at, more_sigs, sig_list, shape_of, takes_sigs}
+use Rattle.hc_sigtext.specs.SigReading as r
+use Rattle.hc_sigtext.specs.SigReading.{bind, past_comma, past_round, past_square, ident_at, signal_at, body_at, bodies_at, more_sigs, sig_list, shape_of, takes_sigs}
 use Rattle.hc_tokens.proofs.NumbersFound.{reads, balanced, open_after, left_open, right_open, within_open, none_within, open_least}
-use Rattle.hc_lines.proofs.SignalsEven.{Even, ident_even, sig_even}
+use Rattle.hc_sigtext.proofs.SignalsEven.{Even, ident_even, sig_even}
 
 -- ---- what may follow
 

@@ -1,6 +1,6 @@
 use Rattle.std.proofs.Common.{◌≡◌, ◌≤◌, ◌+◌, ◌*◌, length}
-use Rattle.hc_lines.specs.SigReading as r
-use Rattle.hc_lines.proofs.signal.+signal.Given as goal
+use Rattle.hc_sigtext.specs.SigReading as r
+use Rattle.hc_sigtext.proofs.reading.+signal.Given as goal
 
 abbrev pub decreases-signal : goal.decreases-signal
 decreases-signal l = 16 * l.depth + 6

@@ -1,12 +1,12 @@
 -- Signals are read exactly where they are spelled.
 use Rattle.std.proofs.Common.{◌≡◌, ℕ, ◌≤◌, [], Some, refl, sym, ◌∙◌, ap, subst, arith}
-use Rattle.hc_lines.specs.declared.tree.Sig.{Sig}
-use Rattle.hc_lines.specs.Grammar.{Tokens, IsSig, most_open}
-use Rattle.hc_lines.specs.SigReading.{signal_at}
+use Rattle.hc_sigtext.specs.declared.tree.Sig.{Sig}
+use Rattle.hc_sigtext.specs.Grammar.{Tokens, IsSig, most_open}
+use Rattle.hc_sigtext.specs.SigReading.{signal_at}
 use Rattle.hc_tokens.proofs.NumbersSound.{append-nil}
-use Rattle.hc_lines.proofs.SigFound.{sig_found}
-use Rattle.hc_lines.proofs.SigSound.{signal_sound}
-use Rattle.hc_lines.proofs.Fronts.{some-first}
+use Rattle.hc_sigtext.proofs.SigFound.{sig_found}
+use Rattle.hc_sigtext.proofs.SigSound.{signal_sound}
+use Rattle.hc_sigtext.proofs.Fronts.{some-first}
 
 pub signal-read : (ts : Tokens) (s : Sig) (d : ℕ) → IsSig ts s → most_open 0 ts ≤ d → signal_at d ts ≡ Some (s, [])
 signal-read ts s d h l = ap (signal_at d) (sym (append-nil ts)) ∙ sig_found h d 0 (omega arith) [] refl

@@ -4,9 +4,9 @@ use Rattle.hc_tokens.specs.declared.token.Token.TheVariants.{Mark}
 use Rattle.hc_tokens.specs.declared.token.Mark.{Mark as Mark_}
 use Rattle.hc_tokens.specs.declared.token.Mark.TheVariants as mark
 use Rattle.hc_tokens.specs.declared.tree.Num.{Num}
-use Rattle.hc_lines.specs.Grammar.{Tokens, most_open, in_round}
+use Rattle.hc_sigtext.specs.Grammar.{Tokens, most_open, in_round}
 use Rattle.hc_tokens.specs.Reading.{Read, go_on}
-use Rattle.hc_lines.specs.SigReading.{bind}
+use Rattle.hc_sigtext.specs.SigReading.{bind}
 use Rattle.hc_tokens.proofs.NumbersFound.{open_after, open_after-append, most_open-append}
 use Rattle.hc_tokens.proofs.NumbersSound as numbers
 

@@ -6,5 +6,5 @@ mod reading;
 mod tree;
 
 pub use laws::signals_are_read;
-pub use reading::{ident, next_comma, past_comma, signal, spelling};
+pub use reading::{ident, signal};
 pub use tree::{CallWord, IdentText, Sig};

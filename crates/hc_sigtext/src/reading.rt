@@ -14,7 +14,7 @@ use sqlite_items::Boxed;
 use std::alloc::Global;
 
 /// The tokens after a comma, where one comes next.
-pub fn next_comma(tokens: &[Token]) -> Option<&[Token]>
+fn next_comma(tokens: &[Token]) -> Option<&[Token]>
     ensures { option_map (λ q. q.now) result ≡ r.past_comma tokens.now }
 {
     match tokens {
@@ -23,7 +23,7 @@ pub fn next_comma(tokens: &[Token]) -> Option<&[Token]>
     }
 }
 
-pub fn past_comma(tokens: &[Token]) -> Result<&[Token], Stop>
+fn past_comma(tokens: &[Token]) -> Result<&[Token], Stop>
     ensures { Returns (λ x. x.now) result (r.past_comma tokens.now) }
 {
     match tokens {
@@ -85,12 +85,9 @@ fn ident_by(
     }
 }
 
-/// A name, with an index if it has one.
-pub fn ident(
-    alloc: Global,
-    tokens: &[Token],
-    depth: usize,
-) -> Result<(IdentText, &[Token]), Stop>
+/// A name at the front of the tokens, with an index if it has one, and the tokens after it. At most `depth` brackets may be open
+/// in the index. `Syntax` where no such name stands there.
+pub fn ident(alloc: Global, tokens: &[Token], depth: usize) -> Result<(IdentText, &[Token]), Stop>
     ensures { Returns (λ x. (x.0, x.1.now)) result (r.ident_at depth tokens.now) }
 {
     match tokens {
@@ -155,7 +152,7 @@ const WORDS: [CallWord; 28] = [
 ];
 
 /// How a call word is written.
-pub fn spelling(word: CallWord) -> &'static [u8]
+fn spelling(word: CallWord) -> &'static [u8]
     ensures { result.now ≡ call_words.spelling word }
 {
     match word {
@@ -555,7 +552,8 @@ fn word_sig<'a>(
     }
 }
 
-/// A signal at the front of the tokens, with at most `depth` brackets open, and the tokens after it.
+/// A signal at the front of the tokens, with at most `depth` brackets open, and the tokens after it. `Syntax` where none stands
+/// there.
 #[cycle(signal)]
 #[tactic(auto, unfolding(crate::specs::SigReading::signal))]
 pub fn signal(alloc: Global, tokens: &[Token], depth: usize) -> Result<(Sig, &[Token]), Stop>

@@ -1,5 +1,5 @@
 -- The grammar of numbers: which tokens spell one. And the brackets that are open in a row of tokens.
-use Rattle.std.specs.Prelude.{◌≡◌, ℕ, suc, ◌+◌, ◌-◌, ◌≤◌, max, Bool, true, false, IsTrue, List, [], ◌∷◌, ◌++◌, ℤ, codes}
+use Rattle.std.specs.Prelude.{ℕ, suc, ◌+◌, ◌-◌, ◌≤◌, max, Bool, true, false, IsTrue, List, [], ◌∷◌, ◌++◌, ℤ, codes}
 use Rattle.std.specs.List.{AllPass}
 use Rattle.hc_tokens.specs.declared.token.Token.{Token}
 use Rattle.hc_tokens.specs.declared.token.Token.TheVariants.{Word, Int, Operator, Mark}

@@ -1,5 +1,5 @@
 -- The line grammar: which tokens spell a line.
-use Rattle.std.specs.Prelude.{◌≡◌, ℕ, ◌≤◌, true, false, IsTrue, List, [], ◌∷◌, ◌++◌, map, Option, Some, None, ℤ, pos, neg_ℤ, int_le, codes}
+use Rattle.std.specs.Prelude.{ℕ, ◌≤◌, true, false, IsTrue, List, [], ◌∷◌, ◌++◌, map, Option, Some, None, ℤ, pos, neg_ℤ, int_le, codes}
 use Rattle.hc_tokens.specs.declared.token.Token.TheVariants.{Word, Int, Sized, Operator, Mark}
 use Rattle.hc_tokens.specs.declared.token.Mark.TheVariants as mark
 use Rattle.hc_tokens.specs.declared.tree.NumOp.TheVariants as num_op

@@ -8,7 +8,7 @@ use Rattle.hc_signal.specs.FlatGraph.{IsFlat}
 use Rattle.hc_canon.specs.FormView.{FormView, IsCanonOf}
 use Rattle.hc_canon.proofs.Renumbered.{then}
 use Rattle.hc_canon.proofs.Isomorphisms.{isomorphism_then}
-use Rattle.hc_verilog.specs.ModuleNames.{name_in}
+use Rattle.hc_naming.specs.ModuleNames.{name_in}
 use Rattle.hc_verilog.specs.Templates.{module_lines}
 use Rattle.hc_verilog.specs.ModuleText.{IsFormText, IsTreeText}
 use Rattle.hc_verilog.proofs.Single.{module_text_single, tree_text_single}

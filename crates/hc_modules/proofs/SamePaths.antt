@@ -10,7 +10,7 @@ use Rattle.hc_canon.specs.Same.{IsIsomorphism, Same}
 use Rattle.hc_canon.proofs.Renumbered.{same_numbers, row_same, memory_same, instance_same, renumber_same, then, number}
 use Rattle.hc_canon.proofs.Isomorphisms.{reached_to, isomorphism_then, isomorphism_back, same-sym, same-trans}
 use Rattle.hc_canon.proofs.Canonical.{reached_inst}
-use Rattle.hc_verilog.specs.ModuleNames.{name_in}
+use Rattle.hc_naming.specs.ModuleNames.{name_in}
 use Rattle.hc_verilog.specs.Templates.{module_lines}
 use Rattle.hc_verilog.specs.ModuleText.{IsModuleText, IsTreeText}
 use Rattle.hc_verilog.proofs.Single.{module_text_single}

@@ -1,11 +1,10 @@
 -- The tables and the text of a module, put together.
-use Rattle.std.proofs.Common.{◌≡◌, ℕ, zero, suc, ◌+◌, ◌<◌, ◌≤◌, ◌==◌, ◌||◌, Bool, true, false, List, [], ◌∷◌, ◌++◌, map, drop, length, get_or, refl, sym, ap, subst, ◌∙◌, inl, inr, arith, eq-eqb, eqb-true, true≢false}
-use Rattle.std.specs.Prelude.{slice_get, slice_set, Option, Some, None, IsSome, unwrap_or, option_map, option_and_then, flat_map, codes, replicate}
-use Rattle.std.specs.List.{enumerate_from, list_any}
+use Rattle.std.proofs.Common.{◌≡◌, ℕ, zero, suc, List, [], ◌∷◌, ◌++◌, map, refl, sym, ap, subst, ◌∙◌, true≢false}
+use Rattle.std.specs.Prelude.{slice_get, Option, Some, None, IsSome, unwrap_or, option_map, option_and_then, flat_map, codes}
+use Rattle.std.specs.List.{enumerate_from}
 use Rattle.std.specs.Option.{option_map_or}
 use Rattle.hc_bits.specs.Digits.{lines_text}
 use Rattle.hc_signal.specs.Member.{Has, first, later}
-use Rattle.hc_signal.specs.declared.signal.NodeId.{NodeId}
 use Rattle.hc_signal.specs.declared.signal.NodeRow.{NodeRow}
 use Rattle.hc_signal.specs.declared.signal.Memory.{Memory}
 use Rattle.hc_signal.specs.declared.signal.Instance.{Instance}
@@ -13,43 +12,13 @@ use Rattle.hc_signal.specs.Graph.{Graph, node}
 use Rattle.hc_canon.specs.declared.form.EntryId.{EntryId}
 use Rattle.hc_canon.specs.FormView.{FormView}
 use Rattle.hc_names.specs.NameRows.{name_of_entry}
-use Rattle.hc_verilog.specs.ModuleNames.{Named, vertex, numbered_nodes, inner_nodes}
-use Rattle.hc_verilog.specs.NameTable.{name_by, mark_at, HasNames}
-use Rattle.hc_verilog.specs.declared.names.ModuleNames.{ModuleNames}
-use Rattle.hc_verilog.specs.Results.{result_in, result_name, AreResults}
+use Rattle.hc_naming.specs.ModuleNames.{Named, vertex, numbered_nodes, inner_nodes}
+use Rattle.hc_naming.specs.NameTable.{name_by, HasNames}
+use Rattle.hc_naming.specs.declared.names.ModuleNames.{ModuleNames}
+use Rattle.hc_verilog.specs.Results.{result_name, AreResults}
 use Rattle.hc_verilog.specs.Templates.{header, declaration, memory_declaration, item, memory_lines, all_instance_lines, output_name, module_lines}
 use Rattle.hc_verilog.specs.ModuleText.{module_of, AreNamed, IsFormText}
-use Rattle.hc_verilog.proofs.Named.{choice}
-use Rattle.hc_verilog.proofs.Texts.{drop_at}
-use Rattle.hc_verilog.proofs.Slots.{get_set_same, get_set_other}
 use Rattle.hc_verilog.proofs.Parts.{module_parts}
-
--- ---- marks
-
-or_true : (b : Bool) → (b || true) ≡ true
-or_true true = refl
-or_true false = refl
-
--- one mark more
-pub mark_cut : (marks : List Bool) (ids : List NodeId) (k n : ℕ) (id : NodeId) → slice_get ids k ≡ Some id → id.0 < length marks
-    → (mark_at (slice_set marks id.0 true) n || list_any (λ (i : NodeId). i.0 == n) (drop (k + 1) ids)) ≡ (mark_at marks n || list_any (λ (i : NodeId). i.0 == n) (drop k ids))
-mark_cut marks ids k n id at within =
-    let rest : Bool = list_any (λ (i : NodeId). i.0 == n) (drop (k + 1) ids) in
-    elim (choice (id.0 == n)) [
-      | inl e ↦
-          (let same : id.0 ≡ n = eqb-true id.0 n e in
-          let set : mark_at (slice_set marks id.0 true) n ≡ true = ap (λ m. mark_at (slice_set marks id.0 true) m) (sym same) ∙ ap (λ (o : Option Bool). unwrap_or o false) (get_set_same marks id.0 true within) in
-          ap (λ b. b || rest) set ∙ sym (ap (λ l. mark_at marks n || list_any (λ (i : NodeId). i.0 == n) l) (drop_at ids k id at) ∙ ap (λ b. mark_at marks n || (b || rest)) e ∙ or_true (mark_at marks n)))
-      | inr e ↦
-          ap (λ (o : Option Bool). unwrap_or o false || rest) (get_set_other marks id.0 n true (λ same. true≢false (sym (eq-eqb id.0 n same) ∙ e)))
-          ∙ sym (ap (λ l. mark_at marks n || list_any (λ (i : NodeId). i.0 == n) l) (drop_at ids k id at) ∙ ap (λ b. mark_at marks n || (b || rest)) e)
-    ]
-
--- no mark
-pub mark_none : (len n : ℕ) → mark_at (replicate len false) n ≡ false
-mark_none zero n = refl
-mark_none (suc len) zero = refl
-mark_none (suc len) (suc n) = mark_none len n
 
 -- ---- outputs of instances
 

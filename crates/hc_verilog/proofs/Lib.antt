@@ -1,9 +1,4 @@
 pub mod Texts
-pub mod Named
-pub mod Apart
-pub mod Wanted
-pub mod Slots
-pub mod Taking
 pub mod Parts
 pub mod Assembly
 pub mod Single

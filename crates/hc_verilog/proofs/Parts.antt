@@ -7,7 +7,7 @@ use Rattle.hc_signal.specs.declared.signal.WritePort.{WritePort}
 use Rattle.hc_signal.specs.declared.signal.Memory.{Memory}
 use Rattle.hc_signal.specs.declared.signal.Instance.{Instance}
 use Rattle.hc_signal.specs.Graph.{Graph, inst}
-use Rattle.hc_verilog.specs.ModuleNames.{Named, vertex, numbered_nodes, inner_nodes}
+use Rattle.hc_naming.specs.ModuleNames.{Named, vertex, numbered_nodes, inner_nodes}
 use Rattle.hc_verilog.specs.Templates.{header, input_line, output_line, with_commas, clocked, write_line, write_lines, memory_lines, connection_line, result_line, instance_lines, all_instance_lines, output_name, declaration, memory_declaration, item, module_lines}
 use Rattle.hc_verilog.proofs.Texts.{lines_append}
 

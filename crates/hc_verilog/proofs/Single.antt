@@ -1,6 +1,5 @@
--- The names taken, the text of a module and the text of a tree are single.
-use Rattle.std.proofs.Common.{◌≡◌, ℕ, suc, ◌+◌, ◌<◌, ◌≤◌, List, [], ◌∷◌, ◌++◌, length, refl, sym, ap, ap₂, subst, ◌∙◌, arith}
-use Rattle.std.specs.Prelude.{flat_map}
+-- The text of a module and the text of a tree are single.
+use Rattle.std.proofs.Common.{◌≡◌, ℕ, ◌+◌, ◌<◌, List, [], ◌∷◌, ◌++◌, length, refl, sym, ap, ap₂, subst, ◌∙◌, arith}
 use Rattle.std.specs.List.{enumerate_from}
 use Rattle.hc_bits.specs.Digits.{lines_text}
 use Rattle.hc_signal.specs.declared.signal.Instance.{Instance}
@@ -12,22 +11,10 @@ use Rattle.hc_canon.specs.Numbering.{IsCanonical}
 use Rattle.hc_canon.proofs.Renumbered.{then, number}
 use Rattle.hc_canon.proofs.Isomorphisms.{reached_to, isomorphism_then, isomorphism_back}
 use Rattle.hc_canon.proofs.Canonical.{canonical_once, instance_stays, reached_inst}
-use Rattle.hc_names.proofs.Mangled.{mangled_single}
-use Rattle.hc_verilog.specs.ModuleNames.{Named, Wants, Takes, wanted, name_in}
+use Rattle.hc_naming.specs.ModuleNames.{Named, wanted, name_in}
+use Rattle.hc_naming.proofs.Named.{takes_single}
 use Rattle.hc_verilog.specs.Templates.{instance_lines, all_instance_lines, output_name, module_lines}
 use Rattle.hc_verilog.specs.ModuleText.{IsModuleText, IsTreeText}
-use Rattle.hc_verilog.proofs.Named.{Given}
-
-pub takes_single : (used : List (List ℕ)) (ws : Wants) (a b : List Given) → Takes used ws a → Takes used ws b → a ≡ b
-takes_single used [] [] [] x y = refl
-takes_single used (w ∷ ws) (g ∷ gs) (h ∷ hs) x y =
-    let name : g.1 ≡ h.1 = mangled_single w.1 used g.1 h.1 x.1 y.1 in
-    let same : g ≡ h = ap₂ {C = Given} (λ k n. (k, n)) (x.0 ∙ sym y.0) name in
-    ap₂ (λ p ps. p ∷ ps) same (takes_single (used ++ g.1 ∷ []) ws gs hs x.2 (subst (λ (n : List ℕ). Takes (used ++ n ∷ []) ws hs) (sym name) y.2))
-takes_single used [] [] (h ∷ hs) x y = absurd y
-takes_single used [] (g ∷ gs) b x y = absurd x
-takes_single used (w ∷ ws) [] b x y = absurd x
-takes_single used (w ∷ ws) (g ∷ gs) [] x y = absurd y
 
 -- modules that agree on the instances give one text
 agree : (name : Named → List ℕ) (a b : ℕ → List ℕ) (outputs : ℕ → ℕ → List ℕ) (start : ℕ) (its : List Instance) → ((k : ℕ) → k < start + length its → a k ≡ b k)

@@ -1,6 +1,6 @@
 -- Texts as lists.
 use Rattle.std.proofs.Common.{◌≡◌, ℕ, zero, suc, ◌+◌, ◌-◌, ◌/◌, ◌%◌, ◌^◌, ◌<◌, ◌≤◌, Bool, true, false, if◌then◌else◌, cond, List, [], ◌∷◌, ◌++◌, map, drop, length, refl, sym, ap, ap₂, ◌∙◌, inl, inr, append_assoc, append-nil, arith, length-drop}
-use Rattle.std.specs.Prelude.{nat_le, nat_lt, slice_get, Option, Some, None, Result, Ok, Err, OnOk, flat_map, filter, codes}
+use Rattle.std.specs.Prelude.{nat_le, nat_lt, slice_get, Option, Some, Result, Ok, Err, OnOk, flat_map, filter, codes}
 use Rattle.std.specs.List.{enumerate_from, zip}
 use Rattle.std.proofs.lemmas.List.{length-map}
 use Rattle.std.proofs.lemmas.Grind.{flat_map-append}
@@ -8,9 +8,10 @@ use Rattle.std.proofs.lemmas.Bool.{lt-leb, lt-ltb, le-ltb, ltb-true, ltb-false}
 use Rattle.std.proofs.Math.Pow.{pow_mono}
 use Rattle.hc_bits.specs.Digits.{digit, hex, lines_text}
 use Rattle.hc_signal.specs.declared.signal.NodeId.{NodeId}
-use Rattle.hc_verilog.specs.ModuleNames.{Named}
-use Rattle.hc_verilog.specs.Templates.{comma_list, with_commas, clocked, mux_text, tested_case, name_of_id}
-use Rattle.hc_verilog.proofs.Named.{choice}
+use Rattle.hc_naming.specs.ModuleNames.{Named, name_of_id}
+use Rattle.hc_naming.proofs.Lists.{drop_at, drop_all}
+use Rattle.hc_naming.proofs.Named.{choice}
+use Rattle.hc_verilog.specs.Templates.{comma_list, with_commas, clocked, mux_text, tested_case}
 
 -- the last digit after the others
 pub hex_last : (old mid new : List ℕ) (n v d : ℕ) → 0 < n → mid ≡ old ++ hex (n - 1) (v / 16) → d ≡ digit (v % 16) → new ≡ mid ++ d ∷ [] → new ≡ old ++ hex n v
@@ -53,28 +54,10 @@ module _ {T E : Type 0} (r : Result T E) (old new : List ℕ) where
 
 -- ---- loops that write the elements of a list
 
--- what is left of a list at a place
-pub drop_at : {X : Type 0} (xs : List X) (k : ℕ) (x : X) → slice_get xs k ≡ Some x → drop k xs ≡ x ∷ drop (k + 1) xs
-drop_at [] k x e = absurd (cc)
-drop_at (y ∷ xs) zero x e = let same : y ≡ x = cc in ap (λ z. z ∷ xs) same
-drop_at (y ∷ xs) (suc k) x e = drop_at xs k x e ∙ ap (λ n. x ∷ drop n (y ∷ xs)) (let e1 : suc (k + 1) ≡ suc k + 1 = omega arith in e1)
-
-pub drop_all : {X : Type 0} (xs : List X) (k : ℕ) → length xs ≤ k → drop k xs ≡ []
-drop_all [] zero le = refl
-drop_all [] (suc k) le = refl
-drop_all (x ∷ xs) zero le = absurd (omega (arith, le))
-drop_all (x ∷ xs) (suc k) le = drop_all xs k (omega (arith, le))
-
 pub get_enumerated : {X : Type 0} (n : ℕ) (xs : List X) (k : ℕ) (x : X) → slice_get xs k ≡ Some x → slice_get (enumerate_from n xs) k ≡ Some (n + k, x)
 get_enumerated n [] k x e = absurd (cc)
 get_enumerated {X} n (y ∷ xs) zero x e = let same : y ≡ x = cc in let z : n ≡ n + 0 = omega arith in ap₂ {C = Option (ℕ × X)} (λ a b. Some (a, b)) z same
 get_enumerated {X} n (y ∷ xs) (suc k) x e = get_enumerated (n + 1) xs k x e ∙ ap {B = Option (ℕ × X)} (λ a. Some (a, x)) (let s : n + 1 + k ≡ n + suc k = omega arith in s)
-
-pub get_zipped : {X Y : Type 0} (xs : List X) (ys : List Y) (k : ℕ) (x : X) (y : Y) → slice_get xs k ≡ Some x → slice_get ys k ≡ Some y → slice_get (zip xs ys) k ≡ Some (x, y)
-get_zipped [] ys k x y e f = absurd (cc)
-get_zipped (a ∷ xs) [] k x y e f = absurd (cc)
-get_zipped {X} {Y} (a ∷ xs) (b ∷ ys) zero x y e f = let s : a ≡ x = cc in let t : b ≡ y = cc in ap₂ {C = Option (X × Y)} (λ p q. Some (p, q)) s t
-get_zipped (a ∷ xs) (b ∷ ys) (suc k) x y e f = get_zipped xs ys k x y e f
 
 -- what was written, with the rest, is all
 pub one_more : (out new piece rest after all : List ℕ) → new ≡ out ++ piece → rest ≡ piece ++ after → out ++ rest ≡ all → new ++ after ≡ all

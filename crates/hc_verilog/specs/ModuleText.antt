@@ -10,7 +10,7 @@ use Rattle.hc_canon.specs.FormView.{FormView}
 use Rattle.hc_canon.specs.Same.{IsIsomorphism}
 use Rattle.hc_canon.specs.Numbering.{IsCanonical}
 use Rattle.hc_names.specs.NameRows.{name_of_entry}
-use Rattle.hc_verilog.specs.ModuleNames.{Named, wanted, Takes, name_in}
+use Rattle.hc_naming.specs.ModuleNames.{Named, wanted, Takes, name_in}
 use Rattle.hc_verilog.specs.Templates.{module_lines}
 
 -- The module of a circuit in canonical numbering, under a title. `modules` names the module of each instance.

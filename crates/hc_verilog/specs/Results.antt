@@ -4,7 +4,7 @@ use Rattle.std.specs.Option.{option_map_or}
 use Rattle.std.specs.Map.{lookup}
 use Rattle.hc_signal.specs.declared.signal.NodeRow.{NodeRow}
 use Rattle.hc_signal.specs.Graph.{node}
-use Rattle.hc_verilog.specs.ModuleNames.{Named, vertex}
+use Rattle.hc_naming.specs.ModuleNames.{Named, vertex}
 use Rattle.hc_verilog.specs.Templates.{is_output_of}
 
 -- the place of the node of an instance's output

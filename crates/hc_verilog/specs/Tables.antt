@@ -1,8 +1,8 @@
 -- The tables that the text of a module is written from.
 use Rattle.hc_signal.specs.Graph.{Graph}
+use Rattle.hc_naming.specs.ModuleNames.{numbered_nodes}
+use Rattle.hc_naming.specs.NameTable.{HasNames, AreMarks}
 use Rattle.hc_verilog.specs.declared.tables.Tables.{Tables}
-use Rattle.hc_verilog.specs.ModuleNames.{numbered_nodes}
-use Rattle.hc_verilog.specs.NameTable.{HasNames, AreMarks}
 use Rattle.hc_verilog.specs.Results.{AreResults}
 
 -- the names, the marks of the outputs and the outputs of instances of a circuit

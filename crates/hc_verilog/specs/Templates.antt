@@ -17,7 +17,7 @@ use Rattle.hc_signal.specs.declared.signal.Memory.{Memory}
 use Rattle.hc_signal.specs.declared.signal.WritePort.{WritePort}
 use Rattle.hc_signal.specs.declared.signal.Instance.{Instance}
 use Rattle.hc_signal.specs.Graph.{Graph, node, mem, inst}
-use Rattle.hc_verilog.specs.ModuleNames.{Named, vertex, cell, numbered_nodes, inner_nodes}
+use Rattle.hc_naming.specs.ModuleNames.{Named, vertex, cell, numbered_nodes, inner_nodes, name_of_id}
 
 -- the range of a signal of w bits, as `[7:0]`
 unfoldable pub range : ℕ → List ℕ
@@ -92,16 +92,13 @@ result_line output q = codes "    ." ++ q.1.name ++ codes "(" ++ output q.0 ++ c
 
 -- The lines of a module where `name` gives each thing its name.
 module _ (name : Named → List ℕ) where
-  unfoldable pub name_of_id : NodeId → List ℕ
-  name_of_id id = name (vertex (node id.0))
-
   -- ---- the header
 
   unfoldable pub input_line : ℕ × Port → List ℕ
   input_line p = codes "  input " ++ range p.1.width ++ codes " " ++ name (vertex (node p.0)) ++ codes ","
 
   unfoldable pub output_line : NodeId × Port → List ℕ
-  output_line p = codes "  output " ++ range p.1.width ++ codes " " ++ name_of_id p.0
+  output_line p = codes "  output " ++ range p.1.width ++ codes " " ++ name_of_id name p.0
 
   unfoldable pub header : Graph → List ℕ → List (List ℕ)
   header g title =
@@ -125,49 +122,49 @@ module _ (name : Named → List ℕ) where
 
   -- an operand of an operator, which may be signed
   unfoldable pub operand_text : Op2 → NodeId → List ℕ
-  operand_text Muls id = codes "$signed(" ++ name_of_id id ++ codes ")"
-  operand_text op id = name_of_id id
+  operand_text Muls id = codes "$signed(" ++ name_of_id name id ++ codes ")"
+  operand_text op id = name_of_id name id
 
   unfoldable pub binary_text : Op2 → NodeId → NodeId → List ℕ
   binary_text op a b = operand_text op a ++ sign_of op ++ operand_text op b
 
   -- a case of a mux, with the test of the selector, of ws bits, for its number
   unfoldable pub tested_case : ℕ → NodeId → ℕ → NodeId → List ℕ
-  tested_case ws sel k c = name_of_id sel ++ codes " == " ++ literal ws k ++ codes " ? " ++ name_of_id c ++ codes " : "
+  tested_case ws sel k c = name_of_id name sel ++ codes " == " ++ literal ws k ++ codes " ? " ++ name_of_id name c ++ codes " : "
 
   -- the cases from number k on, each but the last with its test
   abbrev pub mux_text : ℕ → NodeId → ℕ → List NodeId → List ℕ
   mux_text ws sel k [] = []
-  mux_text ws sel k (c ∷ []) = name_of_id c
+  mux_text ws sel k (c ∷ []) = name_of_id name c
   mux_text ws sel k (c ∷ d ∷ cs) = tested_case ws sel k c ++ mux_text ws sel (suc k) (d ∷ cs)
 
   -- a word of a memory
   unfoldable pub word_text : ℕ → NodeId → List ℕ
-  word_text m addr = name (vertex (mem m)) ++ codes "[" ++ name_of_id addr ++ codes "]"
+  word_text m addr = name (vertex (mem m)) ++ codes "[" ++ name_of_id name addr ++ codes "]"
 
   -- A read of w bits by an address of wa bits, with a test where an address may lie past the memory's end.
   unfoldable pub read_text : ℕ → ℕ → ℕ → ℕ → NodeId → List ℕ
   read_text w wa size m addr =
       if nat_le (2 ^ wa) size then word_text m addr
-      else (name_of_id addr ++ codes " < " ++ literal wa size ++ codes " ? " ++ word_text m addr ++ codes " : " ++ literal w 0)
+      else (name_of_id name addr ++ codes " < " ++ literal wa size ++ codes " ? " ++ word_text m addr ++ codes " : " ++ literal w 0)
 
   -- the test of an enable, where there is one
   unfoldable pub guard : Option NodeId → List ℕ
   guard None = []
-  guard (Some en) = codes "if (" ++ name_of_id en ++ codes ") "
+  guard (Some en) = codes "if (" ++ name_of_id name en ++ codes ") "
 
   unfoldable pub register_lines : List ℕ → NodeId → Option NodeId → Option (NodeId × BitVector) → List (List ℕ)
-  register_lines x next enable None = (codes "    " ++ guard enable ++ x ++ codes " <= " ++ name_of_id next ++ codes ";") ∷ []
+  register_lines x next enable None = (codes "    " ++ guard enable ++ x ++ codes " <= " ++ name_of_id name next ++ codes ";") ∷ []
   register_lines x next enable (Some clear) =
-      (codes "    if (" ++ name_of_id clear.0 ++ codes ") " ++ x ++ codes " <= " ++ literal clear.1.width clear.1.value ++ codes ";")
-      ∷ (codes "    else " ++ guard enable ++ x ++ codes " <= " ++ name_of_id next ++ codes ";")
+      (codes "    if (" ++ name_of_id name clear.0 ++ codes ") " ++ x ++ codes " <= " ++ literal clear.1.width clear.1.value ++ codes ";")
+      ∷ (codes "    else " ++ guard enable ++ x ++ codes " <= " ++ name_of_id name next ++ codes ";")
       ∷ []
 
   -- the arguments of an operation
   unfoldable pub pins : List NodeId → List ℕ
   pins [] = []
-  pins (a ∷ []) = codes ".a(" ++ name_of_id a ++ codes "), "
-  pins (a ∷ b ∷ more) = codes ".a(" ++ name_of_id a ++ codes "), .b(" ++ name_of_id b ++ codes "), "
+  pins (a ∷ []) = codes ".a(" ++ name_of_id name a ++ codes "), "
+  pins (a ∷ b ∷ more) = codes ".a(" ++ name_of_id name a ++ codes "), .b(" ++ name_of_id name b ++ codes "), "
 
   -- an operation on arguments of w bits, with the names of its cell and of its node
   unfoldable pub operation_line : OpKind → ℕ → List NodeId → List ℕ → List ℕ → List ℕ
@@ -177,13 +174,13 @@ module _ (name : Named → List ℕ) where
   unfoldable pub node_lines : Graph → ℕ → ℕ → Node → List (List ℕ)
   node_lines g n w (Input port) = []
   node_lines g n w (Wire None) = []
-  node_lines g n w (Wire (Some d)) = assign (name (vertex (node n))) (name_of_id d) ∷ []
+  node_lines g n w (Wire (Some d)) = assign (name (vertex (node n))) (name_of_id name d) ∷ []
   node_lines g n w (Const value) = assign (name (vertex (node n))) (literal w value.value) ∷ []
   node_lines g n w (Two op a b) = assign (name (vertex (node n))) (binary_text op a b) ∷ []
-  node_lines g n w (Not a) = assign (name (vertex (node n))) (codes "~" ++ name_of_id a) ∷ []
+  node_lines g n w (Not a) = assign (name (vertex (node n))) (codes "~" ++ name_of_id name a) ∷ []
   node_lines g n w (Mux sel cases) = assign (name (vertex (node n))) (mux_text (width_at g sel) sel 0 cases) ∷ []
-  node_lines g n w (Cat parts) = assign (name (vertex (node n))) (codes "{" ++ comma_list (map name_of_id parts) ++ codes "}") ∷ []
-  node_lines g n w (Select a hi lo) = assign (name (vertex (node n))) (name_of_id a ++ bit_range hi lo) ∷ []
+  node_lines g n w (Cat parts) = assign (name (vertex (node n))) (codes "{" ++ comma_list (map (name_of_id name) parts) ++ codes "}") ∷ []
+  node_lines g n w (Select a hi lo) = assign (name (vertex (node n))) (name_of_id name a ++ bit_range hi lo) ∷ []
   node_lines g n w (Reg next enable clear init) = clocked (register_lines (name (vertex (node n))) next enable clear)
   node_lines g n w (Read m addr) = assign (name (vertex (node n))) (read_text w (width_at g addr) (size_at g m.0) m.0 addr) ∷ []
   node_lines g n w (InstOut i port) = []
@@ -195,7 +192,7 @@ module _ (name : Named → List ℕ) where
   -- ---- memories
 
   unfoldable pub write_line : ℕ → WritePort → List ℕ
-  write_line m w = codes "    if (" ++ name_of_id w.enable ++ codes ") " ++ word_text m w.addr ++ codes " <= " ++ name_of_id w.value ++ codes ";"
+  write_line m w = codes "    if (" ++ name_of_id name w.enable ++ codes ") " ++ word_text m w.addr ++ codes " <= " ++ name_of_id name w.value ++ codes ";"
 
   -- the lines for the write ports of a memory, where it has any
   abbrev pub write_lines : ℕ → List WritePort → List (List ℕ)
@@ -208,7 +205,7 @@ module _ (name : Named → List ℕ) where
   -- ---- instances
 
   unfoldable pub connection_line : Port × NodeId → List ℕ
-  connection_line c = codes "    ." ++ c.0.name ++ codes "(" ++ name_of_id c.1 ++ codes "),"
+  connection_line c = codes "    ." ++ c.0.name ++ codes "(" ++ name_of_id name c.1 ++ codes "),"
 
   -- an instance of the module of this title
   unfoldable pub instance_lines : List ℕ → (ℕ → List ℕ) → ℕ × Instance → List (List ℕ)

@@ -2,13 +2,13 @@
 ghost use Rattle.std.specs.Prelude.{◌≡◌, ◌+◌, ◌^◌, ◌<◌, ◌++◌, ◌∷◌, [], OnOk, map, length, filter, if◌then◌else◌};
 ghost use Rattle.std.specs.List.{enumerate_from};
 ghost use Rattle.hc_bits.specs.Digits.{lines_text};
-ghost use Rattle.hc_verilog.specs.NameTable.{name_by, mark_at, is_unmarked};
+ghost use Rattle.hc_naming.specs.NameTable.{name_by, mark_at, is_unmarked};
 ghost use Rattle.hc_verilog.specs.Templates.{wire_declaration, register_declaration, declaration, memory_declaration};
 
-use crate::names::{ModuleNames, is_marked};
 use crate::text::{push, push_decimal, push_literal, push_range};
 use hc_bits::Bits;
 use hc_fault::NoMemory;
+use hc_naming::{ModuleNames, is_marked};
 use hc_signal::{Memory, Node, NodeRow};
 
 #[tactic(auto, unfolding(crate::specs::Templates::wire_declaration))]

@@ -1,7 +1,7 @@
 ghost use Rattle.std.specs.Prelude.{◌≡◌, ◌++◌, IfOk, OnOk};
 ghost use Rattle.hc_bits.specs.Digits.{lines_text};
+ghost use Rattle.hc_naming.specs.NameTable.{name_by};
 ghost use Rattle.hc_verilog.specs.ModuleText.{AreNamed, IsFormText, module_of};
-ghost use Rattle.hc_verilog.specs.NameTable.{name_by};
 ghost use Rattle.hc_verilog.specs.Tables.{AreTables};
 ghost use Rattle.hc_verilog.specs.Templates.{module_lines};
 
@@ -10,11 +10,12 @@ use crate::header::push_header;
 use crate::instances::push_instances;
 use crate::items::push_items;
 use crate::memories::push_memory_blocks;
-use crate::tables::{Tables, first_place, numbered_rows};
+use crate::tables::Tables;
 use crate::text::push;
 use hc_canon::Form;
 use hc_fault::{Name, NoMemory};
 use hc_names::Names;
+use hc_naming::{first_place, numbered_rows};
 use std::alloc::Global;
 
 /// The text of the module of a form, under this name. The module of an instance has the name in the first row of its

@@ -2,12 +2,12 @@
 ghost use Rattle.std.specs.Prelude.{◌≡◌, ◌++◌, ◌∷◌, [], OnOk, map, length, codes, if◌then◌else◌};
 ghost use Rattle.std.specs.List.{enumerate_from, zip};
 ghost use Rattle.hc_bits.specs.Digits.{lines_text};
-ghost use Rattle.hc_verilog.specs.NameTable.{name_by};
+ghost use Rattle.hc_naming.specs.NameTable.{name_by};
 ghost use Rattle.hc_verilog.specs.Templates.{input_line, output_line, with_commas, header};
 
-use crate::names::ModuleNames;
 use crate::text::{push, push_range};
 use hc_fault::NoMemory;
+use hc_naming::ModuleNames;
 use hc_signal::{Circuit, NodeId, Port};
 
 #[tactic(auto, unfolding(crate::specs::Templates::input_line))]

@@ -2,17 +2,17 @@
 ghost use Rattle.std.specs.Prelude.{◌≡◌, ◌+◌, ◌^◌, ◌<◌, ◌++◌, ◌∷◌, [], OnOk, IfOk, map, length, codes, ℕ, Some, if◌then◌else◌};
 ghost use Rattle.std.specs.List.{enumerate_from, zip};
 ghost use Rattle.hc_bits.specs.Digits.{lines_text};
-ghost use Rattle.hc_verilog.specs.NameTable.{name_by};
+ghost use Rattle.hc_naming.specs.NameTable.{name_by};
 ghost use Rattle.hc_verilog.specs.Results.{result_in, result_name, AreResults};
 ghost use Rattle.hc_verilog.specs.ModuleText.{module_of};
 ghost use Rattle.hc_verilog.specs.Templates.{with_commas, is_output_of, connection_line, result_line, instance_lines, all_instance_lines};
 
 use crate::header::push_line_end;
-use crate::names::ModuleNames;
 use crate::text::push;
 use hc_canon::EntryId;
 use hc_fault::NoMemory;
 use hc_names::Names;
+use hc_naming::ModuleNames;
 use hc_signal::{Instance, Node, NodeId, NodeRow, Port};
 use std::alloc::Global;
 use std::collections::HashMap;

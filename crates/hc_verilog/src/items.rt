@@ -3,13 +3,14 @@ ghost use Rattle.std.specs.Prelude.{◌≡◌, ◌+◌, ◌^◌, ◌<◌, ◌++�
 ghost use Rattle.std.specs.List.{enumerate_from};
 ghost use Rattle.hc_bits.specs.Catalogue.{operation_name};
 ghost use Rattle.hc_bits.specs.Digits.{lines_text};
-ghost use Rattle.hc_verilog.specs.NameTable.{name_by};
-ghost use Rattle.hc_verilog.specs.Templates.{width_at, size_at, argument_width, name_of_id, sign_of, assign, literal, operand_text, binary_text, tested_case, mux_text, bit_range, comma_list, word_text, read_text, guard, register_lines, clocked, pins, operation_line, item};
+ghost use Rattle.hc_naming.specs.ModuleNames.{name_of_id};
+ghost use Rattle.hc_naming.specs.NameTable.{name_by};
+ghost use Rattle.hc_verilog.specs.Templates.{width_at, size_at, argument_width, sign_of, assign, literal, operand_text, binary_text, tested_case, mux_text, bit_range, comma_list, word_text, read_text, guard, register_lines, clocked, pins, operation_line, item};
 
-use crate::names::ModuleNames;
 use crate::text::{push, push_decimal, push_literal};
 use hc_bits::{Bits, OpKind};
 use hc_fault::NoMemory;
+use hc_naming::ModuleNames;
 use hc_signal::{Circuit, Node, NodeId, NodeRow, Op2};
 
 /// The width of a node.

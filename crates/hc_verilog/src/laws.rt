@@ -1,13 +1,7 @@
 ghost use Rattle.std.specs.Prelude.{◌≡◌, ℕ, List};
 ghost use Rattle.hc_signal.specs.Graph.{inst, Graph, Reached};
 ghost use Rattle.hc_signal.specs.Tree.{graph, Tree};
-ghost use Rattle.hc_verilog.specs.ModuleNames.{Named, Takes, Wants};
 ghost use Rattle.hc_verilog.specs.ModuleText.{IsModuleText, IsTreeText};
-
-/// Wanted names are given in one way.
-pub fn names_taken_are_single()
-    ensures { (used : List (List ℕ)) (wants : Wants) (a b : List (Named × List ℕ)) → Takes used wants a → Takes used wants b → a ≡ b }
-{}
 
 /// A circuit has one module under a title, where each instance has its module's name.
 pub fn module_texts_are_single()

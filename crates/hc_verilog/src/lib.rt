@@ -8,10 +8,8 @@ mod instances;
 mod items;
 mod laws;
 mod memories;
-mod names;
-mod naming;
 mod tables;
 mod text;
 
 pub use form_text::module_text;
-pub use laws::{module_texts_are_single, names_taken_are_single, tree_texts_are_single};
+pub use laws::{module_texts_are_single, tree_texts_are_single};

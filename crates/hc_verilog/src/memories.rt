@@ -2,13 +2,13 @@
 ghost use Rattle.std.specs.Prelude.{◌≡◌, ◌++◌, ◌∷◌, [], OnOk, map, codes, flat_map};
 ghost use Rattle.std.specs.List.{enumerate_from};
 ghost use Rattle.hc_bits.specs.Digits.{lines_text};
-ghost use Rattle.hc_verilog.specs.NameTable.{name_by};
+ghost use Rattle.hc_naming.specs.NameTable.{name_by};
 ghost use Rattle.hc_verilog.specs.Templates.{clocked, write_line, memory_lines};
 
 use crate::items::push_word;
-use crate::names::ModuleNames;
 use crate::text::push;
 use hc_fault::NoMemory;
+use hc_naming::ModuleNames;
 use hc_signal::{Memory, WritePort};
 
 #[tactic(auto, unfolding(crate::specs::Templates::write_line))]

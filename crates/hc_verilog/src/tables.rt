@@ -1,15 +1,10 @@
 //! The tables that the text of a module is written from.
-ghost use Rattle.std.specs.Prelude.{◌≡◌, ℕ, ◌+◌, ◌≤◌, ◌<◌, ◌^◌, ◌==◌, ◌||◌, IfOk, length, drop, slice_index_or};
-ghost use Rattle.std.specs.List.{list_any};
-ghost use Rattle.hc_verilog.specs.ModuleNames.{first_number};
-ghost use Rattle.hc_verilog.specs.NameTable.{mark_at, AreMarks};
+ghost use Rattle.std.specs.Prelude.{IfOk};
 
 use crate::instances::{Results, results_of};
-use crate::names::ModuleNames;
-use crate::naming::take_names;
 use hc_canon::Form;
 use hc_fault::NoMemory;
-use hc_signal::{NodeId, NodeRow};
+use hc_naming::{ModuleNames, first_place, numbered_rows, output_marks, take_names};
 use std::alloc::Global;
 
 /// The names in a module, the marks of its output nodes, and the nodes of its instances' outputs.
@@ -18,44 +13,6 @@ pub(crate) struct Tables {
     pub(crate) names: ModuleNames,
     pub(crate) marks: Vec<bool>,
     pub(crate) results: Results,
-}
-
-/// The place of the first numbered node.
-pub(crate) fn first_place(form: &Form) -> usize
-    ensures { result ≡ first_number form.now.circuit }
-{
-    form.circuit().ports().inputs.as_slice().len()
-}
-
-/// The numbered nodes.
-pub(crate) fn numbered_rows(form: &Form) -> &[NodeRow]
-    ensures rows { result.now ≡ drop (first_number form.now.circuit) form.now.circuit.nodes }
-    ensures room { first_number form.now.circuit + length result.now ≤ length form.now.circuit.nodes }
-    ensures few { length form.now.circuit.nodes ≤ 2 ^ 32 }
-{
-    form.canonical();
-    form.circuit().nodes().split_at(first_place(form)).1
-}
-
-/// Marks these nodes.
-fn mark(marks: &mut Vec<bool>, ids: &[NodeId])
-    requires { (k : ℕ) → k < length ids.now → (slice_index_or ids.now k (record { 0 = 0 })).0 < length marks.old.items }
-    ensures { (n : ℕ) → mark_at marks.new.items n ≡ (mark_at marks.old.items n || list_any (λ (id : NodeId). id.0 == n) ids.now) }
-{
-    for id in ids {
-        marks[id.0 as usize] = true;
-    }
-}
-
-/// The marks of the outputs, by node.
-fn output_marks(alloc: Global, form: &Form) -> Result<Vec<bool>, NoMemory>
-    ensures { IfOk result (λ marks. AreMarks form.now.circuit marks.items) }
-{
-    form.canonical();
-    let circuit = form.circuit();
-    let mut marks = vec![in alloc; false; circuit.nodes().len()]?;
-    mark(&mut marks, circuit.outputs());
-    Ok(marks)
 }
 
 impl Tables {

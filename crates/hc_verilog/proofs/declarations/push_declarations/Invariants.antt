@@ -1,7 +1,7 @@
 use Rattle.std.proofs.Common.{◌≡◌, ◌+◌, ◌++◌, drop, map, filter}
 use Rattle.std.specs.List.{enumerate_from}
 use Rattle.hc_bits.specs.Digits.{lines_text}
-use Rattle.hc_verilog.specs.NameTable.{name_by, is_unmarked}
+use Rattle.hc_naming.specs.NameTable.{name_by, is_unmarked}
 use Rattle.hc_verilog.specs.Templates.{declaration}
 use Rattle.hc_verilog.proofs.declarations.push_declarations.Given as goal
 

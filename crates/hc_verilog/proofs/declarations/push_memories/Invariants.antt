@@ -1,7 +1,7 @@
 use Rattle.std.proofs.Common.{◌≡◌, ◌+◌, ◌++◌, drop, map}
 use Rattle.std.specs.List.{enumerate_from}
 use Rattle.hc_bits.specs.Digits.{lines_text}
-use Rattle.hc_verilog.specs.NameTable.{name_by}
+use Rattle.hc_naming.specs.NameTable.{name_by}
 use Rattle.hc_verilog.specs.Templates.{memory_declaration}
 use Rattle.hc_verilog.proofs.declarations.push_memories.Given as goal
 

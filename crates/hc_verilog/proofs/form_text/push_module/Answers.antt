@@ -1,10 +1,10 @@
-use Rattle.std.proofs.Common.{◌≡◌, refl, sym, ap, ap₂, subst, ◌∙◌}
+use Rattle.std.proofs.Common.{sym, ap, ap₂, subst, ◌∙◌}
 use Rattle.std.specs.List.{enumerate_from}
-use Rattle.hc_verilog.specs.NameTable.{name_by, AreMarks}
+use Rattle.hc_naming.specs.NameTable.{name_by, AreMarks}
+use Rattle.hc_naming.proofs.Taking.{outputs_paired}
+use Rattle.hc_naming.proofs.Slots.{inner_by_marks}
 use Rattle.hc_verilog.specs.ModuleText.{module_of}
 use Rattle.hc_verilog.proofs.Texts.{written_seven}
-use Rattle.hc_verilog.proofs.Taking.{outputs_paired}
-use Rattle.hc_verilog.proofs.Slots.{inner_by_marks}
 use Rattle.hc_verilog.proofs.Assembly.{module_by, results_named}
 use Rattle.hc_verilog.proofs.form_text.push_module.Goals as goal
 

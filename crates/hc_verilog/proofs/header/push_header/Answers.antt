@@ -1,4 +1,4 @@
-use Rattle.hc_verilog.specs.NameTable.{name_by}
+use Rattle.hc_naming.specs.NameTable.{name_by}
 use Rattle.hc_verilog.proofs.Texts.{written_four}
 use Rattle.hc_verilog.proofs.Parts.{header_parts}
 use Rattle.hc_verilog.proofs.header.push_header.Goals as goal

@@ -1,7 +1,7 @@
 use Rattle.std.proofs.Common.{◌≡◌, ◌+◌, ◌++◌, drop, map}
 use Rattle.std.specs.List.{enumerate_from}
 use Rattle.hc_bits.specs.Digits.{lines_text}
-use Rattle.hc_verilog.specs.NameTable.{name_by}
+use Rattle.hc_naming.specs.NameTable.{name_by}
 use Rattle.hc_verilog.specs.Templates.{input_line}
 use Rattle.hc_verilog.proofs.header.push_inputs.Given as goal
 

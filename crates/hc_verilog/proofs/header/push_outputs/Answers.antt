@@ -1,13 +1,14 @@
-use Rattle.std.proofs.Common.{◌≡◌, ◌+◌, ◌<◌, ◌≤◌, length, map, get_or, sym, ap, ◌∙◌, arith}
+use Rattle.std.proofs.Common.{◌≡◌, ◌+◌, ◌<◌, ◌≤◌, length, map, get_or, sym, ap, arith}
 use Rattle.std.specs.Prelude.{nat_lt}
 use Rattle.std.specs.List.{zip}
 use Rattle.std.proofs.lemmas.Option.{slice_get-get_or}
 use Rattle.std.proofs.lemmas.Slice.Zip.{length-zip}
 use Rattle.hc_bits.specs.Digits.{lines_text}
-use Rattle.hc_verilog.specs.NameTable.{name_by}
+use Rattle.hc_naming.specs.NameTable.{name_by}
+use Rattle.hc_naming.proofs.Lists.{drop_all, get_zipped}
+use Rattle.hc_naming.proofs.Taking.{at_place}
 use Rattle.hc_verilog.specs.Templates.{output_line, with_commas}
-use Rattle.hc_verilog.proofs.Texts.{one_more, finished, line_cut, drop_all, get_zipped}
-use Rattle.hc_verilog.proofs.Taking.{at_place}
+use Rattle.hc_verilog.proofs.Texts.{one_more, finished, line_cut}
 use Rattle.hc_verilog.proofs.header.push_outputs.Goals as goal
 
 pub loop-k-preserved : goal.loop-k-preserved

@@ -1,7 +1,7 @@
-use Rattle.std.proofs.Common.{◌≡◌, ◌+◌, ◌++◌, drop, map}
+use Rattle.std.proofs.Common.{◌≡◌, ◌++◌, drop, map}
 use Rattle.std.specs.List.{zip}
 use Rattle.hc_bits.specs.Digits.{lines_text}
-use Rattle.hc_verilog.specs.NameTable.{name_by}
+use Rattle.hc_naming.specs.NameTable.{name_by}
 use Rattle.hc_verilog.specs.Templates.{output_line, with_commas}
 use Rattle.hc_verilog.proofs.header.push_outputs.Given as goal
 

@@ -1,7 +1,7 @@
 use Rattle.std.proofs.Common.{map, ap, inl, inr}
 use Rattle.std.specs.Slice.Iter.{iter_rest}
 use Rattle.hc_bits.specs.Digits.{lines_text}
-use Rattle.hc_verilog.specs.NameTable.{name_by}
+use Rattle.hc_naming.specs.NameTable.{name_by}
 use Rattle.hc_verilog.specs.Templates.{connection_line}
 use Rattle.hc_verilog.proofs.Texts.{finished, zip_none_left, zip_none_right}
 use Rattle.hc_verilog.proofs.instances.push_connections.Goals as goal

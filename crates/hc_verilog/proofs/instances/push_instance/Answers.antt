@@ -1,4 +1,4 @@
-use Rattle.hc_verilog.specs.NameTable.{name_by}
+use Rattle.hc_naming.specs.NameTable.{name_by}
 use Rattle.hc_verilog.specs.Results.{result_name}
 use Rattle.hc_verilog.proofs.Texts.{written_four}
 use Rattle.hc_verilog.proofs.Parts.{instance_parts}

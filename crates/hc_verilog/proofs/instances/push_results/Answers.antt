@@ -1,13 +1,14 @@
-use Rattle.std.proofs.Common.{◌≡◌, ◌+◌, ◌≤◌, length, map, sym, ap, ◌∙◌, arith}
+use Rattle.std.proofs.Common.{◌+◌, ◌≤◌, length, map, sym, ap, arith}
 use Rattle.std.specs.Prelude.{nat_lt}
 use Rattle.std.specs.List.{enumerate_from}
 use Rattle.std.proofs.lemmas.List.FromFn.{length-enumerate_from}
 use Rattle.hc_bits.specs.Digits.{lines_text}
-use Rattle.hc_verilog.specs.NameTable.{name_by}
+use Rattle.hc_naming.specs.NameTable.{name_by}
+use Rattle.hc_naming.proofs.Lists.{drop_all}
+use Rattle.hc_naming.proofs.Taking.{at_place}
 use Rattle.hc_verilog.specs.Results.{result_name}
 use Rattle.hc_verilog.specs.Templates.{result_line, with_commas}
-use Rattle.hc_verilog.proofs.Texts.{one_more, finished, line_cut, drop_all, get_numbered}
-use Rattle.hc_verilog.proofs.Taking.{at_place}
+use Rattle.hc_verilog.proofs.Texts.{one_more, finished, line_cut, get_numbered}
 use Rattle.hc_verilog.proofs.instances.push_results.Goals as goal
 
 pub loop-number-preserved : goal.loop-number-preserved

@@ -1,7 +1,7 @@
 use Rattle.std.proofs.Common.{refl}
 use Rattle.std.proofs.lemmas.Option.{slice_get-get_or}
-use Rattle.hc_verilog.specs.NameTable.{name_by}
-use Rattle.hc_verilog.specs.Templates.{name_of_id}
+use Rattle.hc_naming.specs.NameTable.{name_by}
+use Rattle.hc_naming.specs.ModuleNames.{name_of_id}
 use Rattle.hc_verilog.proofs.Texts.{one_more, part_cut}
 use Rattle.hc_verilog.proofs.items.push_parts.Goals as goal
 

@@ -1,6 +1,7 @@
 use Rattle.std.proofs.Common.{◌≡◌, ◌++◌, drop, map}
-use Rattle.hc_verilog.specs.NameTable.{name_by}
-use Rattle.hc_verilog.specs.Templates.{comma_list, name_of_id}
+use Rattle.hc_naming.specs.NameTable.{name_by}
+use Rattle.hc_naming.specs.ModuleNames.{name_of_id}
+use Rattle.hc_verilog.specs.Templates.{comma_list}
 use Rattle.hc_verilog.proofs.items.push_parts.Given as goal
 
 -- what was written and the rest of the parts are all

@@ -1,6 +1,6 @@
 use Rattle.std.proofs.Common.{◌≡◌, ◌++◌, length, true≢false, eqb-true, eq-eqb, sym, ap, subst, ◌∙◌}
 use Rattle.std.specs.Prelude.{OnOk}
-use Rattle.hc_verilog.specs.NameTable.{name_by}
+use Rattle.hc_naming.specs.NameTable.{name_by}
 use Rattle.hc_verilog.proofs.Parts.{memory_none, memory_some}
 use Rattle.hc_verilog.proofs.memories.push_memory.Goals as goal
 

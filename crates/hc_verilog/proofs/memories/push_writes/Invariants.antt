@@ -1,6 +1,6 @@
-use Rattle.std.proofs.Common.{◌≡◌, ◌+◌, ◌++◌, drop, map}
+use Rattle.std.proofs.Common.{◌≡◌, ◌++◌, drop, map}
 use Rattle.hc_bits.specs.Digits.{lines_text}
-use Rattle.hc_verilog.specs.NameTable.{name_by}
+use Rattle.hc_naming.specs.NameTable.{name_by}
 use Rattle.hc_verilog.specs.Templates.{write_line}
 use Rattle.hc_verilog.proofs.memories.push_writes.Given as goal
 

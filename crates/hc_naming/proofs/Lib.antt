@@ -1,0 +1,7 @@
+pub mod Lists
+pub mod Named
+pub mod Apart
+pub mod Wanted
+pub mod Slots
+pub mod Taking
+pub mod Marks

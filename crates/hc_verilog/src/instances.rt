@@ -124,11 +124,11 @@ fn push_connections(
     Ok(())
 }
 
-fn push_start(out: &mut Vec<u8>, module: &[u8], name: &[u8]) -> Result<(), NoMemory>
-    ensures { OnOk result (out.new.items ≡ out.old.items ++ (codes "  " ++ module.now ++ codes " " ++ name.now ++ codes " (\n    .clock(clock),\n")) }
+fn push_start(out: &mut Vec<u8>, title: &[u8], name: &[u8]) -> Result<(), NoMemory>
+    ensures { OnOk result (out.new.items ≡ out.old.items ++ (codes "  " ++ title.now ++ codes " " ++ name.now ++ codes " (\n    .clock(clock),\n")) }
 {
     push(out, b"  ")?;
-    push(out, module)?;
+    push(out, title)?;
     push(out, b" ")?;
     push(out, name)?;
     push(out, b" (\n    .clock(clock),\n")
@@ -152,14 +152,14 @@ fn push_instance(
     out: &mut Vec<u8>,
     names: &ModuleNames,
     results: &Results,
-    module: &[u8],
+    title: &[u8],
     place: usize,
     instance: &Instance,
 ) -> Result<(), NoMemory>
-    ensures { OnOk result (out.new.items ≡ out.old.items ++ lines_text (instance_lines (name_by names.now) module.now (result_name (name_by names.now) results.now.entries place) (place, instance.now))) }
+    ensures { OnOk result (out.new.items ≡ out.old.items ++ lines_text (instance_lines (name_by names.now) title.now (result_name (name_by names.now) results.now.entries place) (place, instance.now))) }
 {
     let ports = &instance.ports;
-    push_start(out, module, names.instance(place))?;
+    push_start(out, title, names.instance(place))?;
     push_connections(
         out,
         names,
@@ -183,8 +183,8 @@ pub(crate) fn push_instances(
     ensures { OnOk result (out.new.items ≡ out.old.items ++ lines_text (all_instance_lines (name_by names.now) (module_of modules.now kids.now) (result_name (name_by names.now) results.now.entries) (enumerate_from 0 instances.now))) }
 {
     for (place, instance) in instances.iter().enumerate() {
-        let module = module_name(modules, kids, place);
-        push_instance(out, names, results, module, place, instance)?;
+        let title = module_name(modules, kids, place);
+        push_instance(out, names, results, title, place, instance)?;
     }
     Ok(())
 }

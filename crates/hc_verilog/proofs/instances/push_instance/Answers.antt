@@ -7,7 +7,7 @@ use Rattle.hc_verilog.proofs.instances.push_instance.Goals as goal
 pub returns : goal.returns
 returns c =
     written_four c.push.result _ _ _ _ _ _ _ _ _ _
-    (instance_parts (name_by c.args.names.now) c.args.module.now (result_name (name_by c.args.names.now) c.args.results.now.entries c.args.place) c.args.place c.args.instance.now)
+    (instance_parts (name_by c.args.names.now) c.args.title.now (result_name (name_by c.args.names.now) c.args.results.now.entries c.args.place) c.args.place c.args.instance.now)
     (rw c.instance.ensures at c.in_ok-push_start.ensures)
     (rw (c.as_slice.ensures, c.as_slice-2.ensures) at c.in_ok-push_connections.ensures)
     (rw c.as_slice-3.ensures at c.in_ok-push_results.ensures)

@@ -86,7 +86,7 @@ fn take_step<S: Sim, K: Sink>(
 
 /// Plays a bench: it takes the steps in order and writes a line for each cycle, with the outputs before the clock edge
 /// and after it. It fails only where the sink's count of faults rose. The sink then took a front of the listing of the
-/// cycles that were run, the last of which it did not take whole. It takes no memory.
+/// cycles that were run. It takes no memory.
 pub fn play<S: Sim, K: Sink>(
     sim: &mut S,
     bench: &Bench,

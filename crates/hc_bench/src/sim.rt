@@ -29,12 +29,12 @@ pub trait Sim {
     fn reset(&mut self)
         ensures { runs self.new ≡ record (runs self.old) { state = simulation.reset (runs self.old).tree (runs self.old).state } };
 
-    /// An output before the clock edge of the last cycle, 0 until the first.
+    /// An output before the clock edge of the last cycle; 0 before the first one in a simulator that is at the start.
     fn before(&self, port: u32) -> Bits
         requires { port < length (graph (runs self.now).tree).ports.outputs }
         ensures { (p : Port) → slice_get (graph (runs self.now).tree).ports.outputs port ≡ Some p → result ≡ record { width = p.width; value = slice_index (runs self.now).before port } };
 
-    /// An output after the clock edge of the last cycle, 0 until the first.
+    /// An output after the clock edge of the last cycle; 0 before the first one in a simulator that is at the start.
     fn after(&self, port: u32) -> Bits
         requires { port < length (graph (runs self.now).tree).ports.outputs }
         ensures { (p : Port) → slice_get (graph (runs self.now).tree).ports.outputs port ≡ Some p → result ≡ record { width = p.width; value = slice_index (runs self.now).after port } };

@@ -93,7 +93,9 @@ fn circuit_of<'a>(design: &'a Design, call: &Call) -> &'a CircuitText
     &design.circuits.as_slice()[call.circuit as usize]
 }
 
-/// The ports of a call, or the first fault of its parameters and heads.
+/// The ports of a call, or its first fault, with the path: `RepeatedName` on the circuit's line where two parameters have one
+/// name; else the first of its heads, on the head's line: `Number` or `UnknownName` of its width, `Width` where that is no
+/// width, `RepeatedName` where an earlier head has its name.
 pub fn ports_of(alloc: Global, design: &Design, call: &Call, path: &Path) -> Result<Ports, Refused>
     requires { IsCall design.now call.now }
     ensures { (c : CircuitText) → IsCallOf design.now call.now c → Answers (λ ports. ports) result (call_ports path.now c call.now.args) }
@@ -144,7 +146,8 @@ fn body_at(
 
 /// The body of a call: its heads, then its lines in the order in which they run, then the rules of the whole circuit. The
 /// first fault of these, among F9 to F28 and F37, has the line where it comes, and the path of the call in whose lines
-/// that is.
+/// that is. Of the whole circuit, `NoOutputs` has the line of the circuit, `PortCount` that of the 129th input or else output,
+/// `Undriven` that where the wire or output is declared.
 pub fn body(alloc: Global, design: &Design, call: &Call, path: &Path) -> Result<Body, Refused>
     requires { IsCall design.now call.now }
     ensures { (c : CircuitText) → IsCallOf design.now call.now c → IsAnswer (λ body. body) (BodyOf design.now c call.now.args path.now) result }

@@ -61,7 +61,7 @@ impl<'a> Model for FlatSim<'a> {
 }
 
 impl<'a> FlatSim<'a> {
-    /// A simulator at the start: registers have their initial values, words and inputs are 0.
+    /// A simulator at the start: registers have their initial values, words and inputs are 0. Refused for want of memory only.
     pub fn new(alloc: Global, circuit: &'a Circuit) -> Result<FlatSim<'a>, NoMemory>
         requires checked { IsChecked circuit.now }
         requires instances { circuit.now.instances ≡ [] }

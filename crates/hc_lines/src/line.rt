@@ -746,7 +746,8 @@ fn line_by(alloc: Global, keyword: Keyword, tokens: &[Token], depth: usize) -> R
     }
 }
 
-/// The line that the tokens are, with at most `depth` brackets open. `Syntax` where they are none.
+/// The line that the tokens are, with at most `depth` brackets open. `Syntax` where they are none,
+/// `Memory` where memory runs out.
 pub fn read_line(alloc: Global, tokens: &[Token], depth: usize) -> Result<Line, Stop>
     ensures { Returns (λ x. x) result (r.line_at depth tokens.now) }
 {

@@ -30,35 +30,35 @@ fn slot(slots: &[Option<Name>], at: usize) -> &[u8]
 
 #[tactic(auto, unfolding(crate::specs::NameTable::name_by))]
 impl ModuleNames {
-    /// The name of a node.
+    /// The name of a node; empty where it has none.
     pub fn node(&self, place: usize) -> &[u8]
         ensures { result.now ≡ name_by self.now (vertex (node place)) }
     {
         slot(self.nodes.as_slice(), place)
     }
 
-    /// The name of a memory.
+    /// The name of a memory; empty where it has none.
     pub fn memory(&self, place: usize) -> &[u8]
         ensures { result.now ≡ name_by self.now (vertex (mem place)) }
     {
         slot(self.memories.as_slice(), place)
     }
 
-    /// The name of an instance.
+    /// The name of an instance; empty where it has none.
     pub fn instance(&self, place: usize) -> &[u8]
         ensures { result.now ≡ name_by self.now (vertex (inst place)) }
     {
         slot(self.instances.as_slice(), place)
     }
 
-    /// The name of an operation's cell, by its node.
+    /// The name of an operation's cell, by its node; empty where it has none.
     pub fn cell(&self, place: usize) -> &[u8]
         ensures { result.now ≡ name_by self.now (cell place) }
     {
         slot(self.cells.as_slice(), place)
     }
 
-    /// The name of a node, by its number.
+    /// The name of a node, by its number; empty where it has none.
     #[tactic(auto, unfolding(crate::specs::ModuleNames::name_of_id))]
     pub fn operand(&self, id: NodeId) -> &[u8]
         ensures { result.now ≡ name_of_id (name_by self.now) id }
@@ -67,7 +67,7 @@ impl ModuleNames {
     }
 }
 
-/// Whether a place has a mark.
+/// Whether a place has a mark; none past the end has.
 pub fn is_marked(marks: &[bool], place: usize) -> bool
     ensures { result ≡ mark_at marks.now place }
 {

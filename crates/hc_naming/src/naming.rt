@@ -211,7 +211,8 @@ fn take_cells(
     Ok(())
 }
 
-/// The names in the module of a form. The nodes with a mark are its outputs.
+/// The names in the module of a form, from the marks of its outputs, the place of its first numbered node and its numbered
+/// nodes. Refused for want of memory only.
 pub fn take_names(
     alloc: Global,
     form: &Form,

@@ -36,7 +36,7 @@ fn mark(marks: &mut Vec<bool>, ids: &[NodeId])
     }
 }
 
-/// The marks of the outputs, by node.
+/// The marks of the outputs, by node. Refused for want of memory only.
 pub fn output_marks(alloc: Global, form: &Form) -> Result<Vec<bool>, NoMemory>
     ensures { IfOk result (λ marks. AreMarks form.now.circuit marks.items) }
 {

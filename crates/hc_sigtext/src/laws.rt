@@ -3,7 +3,7 @@ ghost use Rattle.hc_sigtext.specs.Grammar.{IsSig, Tokens, most_open};
 ghost use Rattle.hc_sigtext.specs.SigReading.{signal_at};
 ghost use Rattle.hc_sigtext.specs.declared.tree.Sig.{Sig};
 
-/// What spells a signal is read as that signal, and the other way round.
+/// What spells a signal is read as that signal, and the other way round. No tokens spell two signals.
 pub fn signals_are_read()
     ensures read { (ts : Tokens) (s : Sig) (d : ℕ) → IsSig ts s → most_open 0 ts ≤ d → signal_at d ts ≡ Some (s, []) }
     ensures spelled { (ts : Tokens) (s : Sig) (d : ℕ) → signal_at d ts ≡ Some (s, []) → IsSig ts s × (most_open 0 ts ≤ d) }

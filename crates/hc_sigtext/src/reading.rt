@@ -86,7 +86,7 @@ fn ident_by(
 }
 
 /// A name at the front of the tokens, with an index if it has one, and the tokens after it. At most `depth` brackets may be open
-/// in the index. `Syntax` where no such name stands there.
+/// in the index. `Syntax` where no such name stands there, `Memory` where memory runs out.
 pub fn ident(alloc: Global, tokens: &[Token], depth: usize) -> Result<(IdentText, &[Token]), Stop>
     ensures { Returns (λ x. (x.0, x.1.now)) result (r.ident_at depth tokens.now) }
 {
@@ -553,7 +553,7 @@ fn word_sig<'a>(
 }
 
 /// A signal at the front of the tokens, with at most `depth` brackets open, and the tokens after it. `Syntax` where none stands
-/// there.
+/// there, `Memory` where memory runs out.
 #[cycle(signal)]
 #[tactic(auto, unfolding(crate::specs::SigReading::signal))]
 pub fn signal(alloc: Global, tokens: &[Token], depth: usize) -> Result<(Sig, &[Token]), Stop>

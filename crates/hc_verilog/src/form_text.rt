@@ -19,7 +19,7 @@ use hc_naming::{first_place, numbered_rows};
 use std::alloc::Global;
 
 /// The text of the module of a form, under this name. The module of an instance has the name in the first row of its
-/// entry.
+/// entry. Refused for want of memory only.
 pub fn module_text(
     alloc: Global,
     form: &Form,

@@ -10,3 +10,4 @@ pub mod Choice
 pub mod NewNames
 pub mod Finished
 pub mod LastLines
+pub mod Moving

@@ -3,3 +3,4 @@ pub mod Children
 pub mod Running
 pub mod Opened
 pub mod TopCall
+pub mod Moved

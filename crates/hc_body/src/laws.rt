@@ -7,6 +7,7 @@ ghost use Rattle.hc_body.specs.declared.kinds.Body.{Body};
 ghost use Rattle.hc_statements.specs.declared.kinds.Call.{Call};
 ghost use Rattle.hc_body.specs.BodyOf.{BodyOf, IsCall};
 ghost use Rattle.hc_body.specs.Children.{AreChildrenOf};
+ghost use Rattle.hc_body.specs.Moved.{AreMoved};
 ghost use Rattle.hc_statements.specs.PortWidths.{port_widths, ports_of};
 ghost use Rattle.hc_body.specs.TopCall.{top_call};
 
@@ -29,4 +30,10 @@ pub fn bodies_have_their_ports()
 /// the ports of that call.
 pub fn bodies_have_their_children()
     ensures { (d : Design) (c : CircuitText) (args : List ℤ) (path : Path) (b : Body) → BodyOf d c args path (Ok b) → AreChildrenOf d b }
+{}
+
+/// What a call gives does not depend on where it stands: its body is the same at each path, and its fault but for the path.
+pub fn bodies_stay()
+    ensures body { (d : Design) (c : CircuitText) (args : List ℤ) (p q : Path) (b : Body) → BodyOf d c args p (Ok b) → BodyOf d c args q (Ok b) }
+    ensures answer { (d : Design) (c : CircuitText) (args : List ℤ) (p q : Path) (r : Result Body Fault) → BodyOf d c args p r → (s : Result Body Fault) × BodyOf d c args q s × AreMoved p q r s }
 {}

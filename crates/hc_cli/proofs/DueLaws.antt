@@ -23,7 +23,7 @@ use Rattle.hc_bench.specs.Listing.{CycleRow}
 use Rattle.hc_bench.specs.Answers.{Refuses}
 use Rattle.hc_bench.specs.Steps.{steps_of}
 use Rattle.hc_bench.specs.Trace.{IsRun}
-use Rattle.hc_elab.specs.Elaborates.{DesignElaborates, Elaborated}
+use Rattle.hc_plan.specs.Elaborates.{DesignElaborates, Elaborated}
 use Rattle.hc_output.specs.Output.{IsOutput}
 use Rattle.hc_output.specs.Prepared.{HasOutput, IsReady}
 use Rattle.hc_output.specs.declared.kinds.Output.{Output}

@@ -17,8 +17,8 @@ use Rattle.hc_dbstate.specs.Elaboration.{CallView, IsElaboration, walk}
 use Rattle.hc_dbstate.specs.History.{History, IsLegal, IsLegalTurn, fresh_turns, log}
 use Rattle.hc_dbstate.specs.Unfolding.{unfolding_of}
 use Rattle.hc_dbstate.proofs.Triples.{NameEntries, legal_names, log_is, some_at, triples, triples_step}
-use Rattle.hc_elab.specs.Elaborates.{Elaborated, ElaboratedCall}
-use Rattle.hc_elab.specs.Hierarchies.{AreCallsFor, IsCallFor, IsHierarchyFor, LogsWalk}
+use Rattle.hc_plan.specs.Elaborates.{Elaborated, ElaboratedCall}
+use Rattle.hc_plan.specs.Hierarchies.{AreCallsFor, IsCallFor, IsHierarchyFor, LogsWalk}
 use Rattle.hc_cli.specs.declared.prepared.Kept.{Kept}
 use Rattle.hc_cli.specs.Prepared.{history_in}
 use Rattle.hc_cli.specs.Histories.{AreTurnsOf, IsEntryOf, IsHistoryOf, IsOnce, no_history}

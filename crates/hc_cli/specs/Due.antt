@@ -8,7 +8,7 @@ use Rattle.hc_words.specs.Jobs.{IsJob, HasNoJob}
 use Rattle.hc_lang.specs.declared.tree.Design.{Design}
 use Rattle.hc_lang.specs.Reads.{FirstFault, ParsesTo}
 use Rattle.hc_signal.specs.Tree.{IsWhole, graph}
-use Rattle.hc_elab.specs.Elaborates.{Elaborated, ElaboratedCall, DesignElaborates}
+use Rattle.hc_plan.specs.Elaborates.{Elaborated, ElaboratedCall, DesignElaborates}
 use Rattle.hc_bench.specs.declared.kinds.Step.{Step}
 use Rattle.hc_bench.specs.Listing.{CycleRow}
 use Rattle.hc_bench.specs.Steps.{steps_of}

@@ -6,7 +6,7 @@ use Rattle.hc_canon.specs.FormView.{FormView}
 use Rattle.hc_dbstate.specs.declared.turns.Turn.{Turn}
 use Rattle.hc_dbstate.specs.History.{History, IsLegal}
 use Rattle.hc_dbstate.specs.Unfolding.{Denotes}
-use Rattle.hc_elab.specs.Elaborates.{ElaboratedCall}
+use Rattle.hc_plan.specs.Elaborates.{ElaboratedCall}
 use Rattle.hc_signal.specs.Tree.{Tree}
 
 -- the entry is there and denotes the tree

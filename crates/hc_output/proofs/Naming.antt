@@ -8,8 +8,8 @@ use Rattle.hc_canon.specs.declared.form.EntryId.{EntryId}
 use Rattle.hc_canon.specs.FormView.{FormView}
 use Rattle.hc_dbstate.specs.declared.hier.Hier.{Hier}
 use Rattle.hc_dbstate.specs.Elaboration.{CallView, walk}
-use Rattle.hc_elab.specs.Elaborates.{ElaboratedCall}
-use Rattle.hc_elab.specs.Hierarchies.{AreCallsFor}
+use Rattle.hc_plan.specs.Elaborates.{ElaboratedCall}
+use Rattle.hc_plan.specs.Hierarchies.{AreCallsFor}
 use Rattle.hc_modules.specs.VerilogText.{AreAlike}
 use Rattle.hc_names.specs.NameRows.{name_of_entry}
 use Rattle.hc_names.specs.Naming.{AreNameRows, AreNamesAfter, Given, NameRow, first_rows, is_among, named_tree}

@@ -4,7 +4,7 @@ use Rattle.hc_words.specs.declared.job.Verb.{Verb}
 use Rattle.hc_words.specs.declared.job.Verb.TheVariants as verb
 use Rattle.hc_signal.specs.Tree.{Tree, IsWhole}
 use Rattle.hc_bench.specs.Listing.{CycleRow}
-use Rattle.hc_elab.specs.Elaborates.{Elaborated}
+use Rattle.hc_plan.specs.Elaborates.{Elaborated}
 use Rattle.hc_names.specs.Naming.{NamedTree}
 use Rattle.hc_modules.specs.VerilogText.{IsVerilog}
 use Rattle.hc_flattext.specs.FlatText.{IsFlatText}

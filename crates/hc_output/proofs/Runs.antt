@@ -21,8 +21,8 @@ use Rattle.hc_bench.specs.Listing.{CycleRow, listing}
 use Rattle.hc_bench.specs.Simulation.{State, IsInitialState, initial_inputs}
 use Rattle.hc_bench.specs.Steps.{AreStepsFor}
 use Rattle.hc_bench.specs.Trace.{IsRun, Trace}
-use Rattle.hc_elab.specs.Elaborates.{Elaborated}
-use Rattle.hc_elab.specs.Hierarchies.{IsHierarchyFor}
+use Rattle.hc_plan.specs.Elaborates.{Elaborated}
+use Rattle.hc_plan.specs.Hierarchies.{IsHierarchyFor}
 use Rattle.hc_output.specs.Output.{listing_for}
 use Rattle.hc_output.specs.Prepared.{IsFlatOf}
 

@@ -4,7 +4,7 @@ use Rattle.hc_words.specs.declared.job.Verb.{Verb}
 use Rattle.hc_words.specs.declared.job.Verb.TheVariants as verb
 use Rattle.hc_signal.specs.Tree.{graph}
 use Rattle.hc_bench.specs.Listing.{CycleRow, listing}
-use Rattle.hc_elab.specs.Elaborates.{Elaborated, ElaboratedCall}
+use Rattle.hc_plan.specs.Elaborates.{Elaborated, ElaboratedCall}
 use Rattle.hc_names.specs.Naming.{NamedTree}
 use Rattle.hc_modules.specs.VerilogText.{IsVerilog}
 use Rattle.hc_flattext.specs.FlatText.{IsFlatText}

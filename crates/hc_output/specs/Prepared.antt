@@ -14,7 +14,7 @@ use Rattle.hc_bench.specs.declared.kinds.Step.{Step}
 use Rattle.hc_bench.specs.Steps.{AreStepsFor}
 use Rattle.hc_bench.specs.Listing.{CycleRow, listing}
 use Rattle.hc_bench.specs.Trace.{IsRun}
-use Rattle.hc_elab.specs.Elaborates.{Elaborated}
+use Rattle.hc_plan.specs.Elaborates.{Elaborated}
 use Rattle.hc_flatsim.specs.Machine.{HasNoOps}
 use Rattle.hc_output.specs.Output.{IsOutput}
 use Rattle.hc_output.specs.declared.kinds.Played.{Played}

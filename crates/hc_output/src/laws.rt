@@ -1,6 +1,6 @@
 ghost use Rattle.std.specs.Prelude.{◌≡◌, ℕ, Bool, List};
 ghost use Rattle.hc_bench.specs.Listing.{CycleRow};
-ghost use Rattle.hc_elab.specs.Elaborates.{Elaborated};
+ghost use Rattle.hc_plan.specs.Elaborates.{Elaborated};
 ghost use Rattle.hc_output.specs.Output.{IsOutput};
 ghost use Rattle.hc_signal.specs.Tree.{IsWhole};
 ghost use Rattle.hc_words.specs.declared.job.Verb.{Verb};

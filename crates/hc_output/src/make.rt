@@ -2,8 +2,8 @@ ghost use Rattle.std.specs.Prelude.{◌≡◌, ◌++◌, ◌∷◌, [], List, �
 ghost use Rattle.hc_bench.specs.Steps.{AreStepsFor};
 ghost use Rattle.hc_dbstate.specs.Elaboration.{IsElaboration, hier_view};
 ghost use Rattle.hc_dbstate.specs.Unfolding.{unfolding_of};
-ghost use Rattle.hc_elab.specs.Elaborates.{Elaborated};
-ghost use Rattle.hc_elab.specs.Hierarchies.{IsHierarchyFor, LogsWalk};
+ghost use Rattle.hc_plan.specs.Elaborates.{Elaborated};
+ghost use Rattle.hc_plan.specs.Hierarchies.{IsHierarchyFor, LogsWalk};
 ghost use Rattle.hc_signal.specs.Occurrences.{HasCombLoop};
 ghost use Rattle.hc_signal.specs.Tree.{graph};
 ghost use Rattle.hc_words.specs.declared.job.Verb.TheVariants as verb;

@@ -2,8 +2,8 @@
 ghost use Rattle.std.specs.Prelude.{◌≡◌, IfOk};
 ghost use Rattle.hc_dbstate.specs.Elaboration.{IsElaboration, hier_view};
 ghost use Rattle.hc_dbstate.specs.Unfolding.{unfolding_of};
-ghost use Rattle.hc_elab.specs.Elaborates.{Elaborated};
-ghost use Rattle.hc_elab.specs.Hierarchies.{IsHierarchyFor};
+ghost use Rattle.hc_plan.specs.Elaborates.{Elaborated};
+ghost use Rattle.hc_plan.specs.Hierarchies.{IsHierarchyFor};
 ghost use Rattle.hc_modules.specs.VerilogText.{IsVerilog};
 ghost use Rattle.hc_names.specs.Naming.{named_trees};
 ghost use Rattle.hc_output.specs.Output.{named_calls};

@@ -19,8 +19,8 @@ use Rattle.hc_dbstate.specs.History.{History, IsLegal, IsLegalTurn, fresh_turns,
 use Rattle.hc_dbstate.specs.Unfolding.{unfolding_of}
 use Rattle.hc_dbstate.proofs.Denoted.{unfoldings_once}
 use Rattle.hc_dbstate.proofs.Triples.{NameEntries, legal_names, log_is, some_at, triples, triples_step}
-use Rattle.hc_elab.specs.Elaborates.{Elaborated, ElaboratedCall}
-use Rattle.hc_elab.specs.Hierarchies.{AreCallsFor, IsCallFor, IsHierarchyFor, LogsWalk}
+use Rattle.hc_plan.specs.Elaborates.{Elaborated, ElaboratedCall}
+use Rattle.hc_plan.specs.Hierarchies.{AreCallsFor, IsCallFor, IsHierarchyFor, LogsWalk}
 use Rattle.hc_summary.specs.Kinds.{IsNumberOfKinds}
 use Rattle.hc_summary.specs.Summary.{IsCallTree}
 use Rattle.hc_summary.proofs.Marked.{AreOnce, HaveTrees, IsOn, marked, marks_number}

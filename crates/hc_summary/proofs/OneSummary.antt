@@ -1,7 +1,7 @@
 -- A design and its rows have one summary.
 use Rattle.std.proofs.Common.{◌≡◌, ℕ, List, sym, ap, ◌∙◌}
 use Rattle.hc_bench.specs.Listing.{CycleRow}
-use Rattle.hc_elab.specs.Elaborates.{Elaborated}
+use Rattle.hc_plan.specs.Elaborates.{Elaborated}
 use Rattle.hc_summary.specs.Summary.{AreCountsOf, Counts, IsCallTree, IsReachedTree, IsSummary, summary_text}
 use Rattle.hc_summary.proofs.Matching.{kinds_single}
 

@@ -8,9 +8,9 @@ use Rattle.hc_bench.specs.Trace.{IsRun}
 use Rattle.hc_dbstate.specs.declared.hier.Hier.{Hier}
 use Rattle.hc_dbstate.specs.Elaboration.{hier_view}
 use Rattle.hc_dbstate.specs.History.{History, IsLegal}
-use Rattle.hc_elab.specs.declared.sums.Sums.{Sums}
-use Rattle.hc_elab.specs.Elaborates.{Elaborated}
-use Rattle.hc_elab.specs.Hierarchies.{IsHierarchyFor, LogsWalk}
+use Rattle.hc_plan.specs.declared.sums.Sums.{Sums}
+use Rattle.hc_plan.specs.Elaborates.{Elaborated}
+use Rattle.hc_plan.specs.Hierarchies.{IsHierarchyFor, LogsWalk}
 use Rattle.hc_modules.specs.Uses.{AreUses}
 use Rattle.hc_summary.specs.Kinds.{IsNumberOfKinds}
 use Rattle.hc_summary.specs.Summary.{Counts, IsCallTree, IsReachedTree, IsSummary, summary_text}

@@ -12,8 +12,8 @@ use Rattle.hc_dbstate.specs.History.{History, IsLegal}
 use Rattle.hc_dbstate.specs.Unfolding.{unfolding_of}
 use Rattle.hc_dbstate.proofs.Denoted.{unfoldings_once}
 use Rattle.hc_dbstate.proofs.Walks.{ends_itself, has_kids}
-use Rattle.hc_elab.specs.Elaborates.{Elaborated}
-use Rattle.hc_elab.specs.Hierarchies.{IsHierarchyFor}
+use Rattle.hc_plan.specs.Elaborates.{Elaborated}
+use Rattle.hc_plan.specs.Hierarchies.{IsHierarchyFor}
 use Rattle.hc_modules.specs.Uses.{AreUses, Uses}
 use Rattle.hc_modules.proofs.Called.{called, top_within}
 use Rattle.hc_modules.proofs.Reaching.{path_entry, uses_reaches}

@@ -2,7 +2,7 @@
 use Rattle.std.specs.Prelude.{◌≡◌, ℕ, List, [], ◌∷◌, ◌++◌, length, codes, decimal}
 use Rattle.hc_bits.specs.Digits.{lines_text}
 use Rattle.hc_bench.specs.Listing.{CycleRow}
-use Rattle.hc_elab.specs.Elaborates.{Elaborated, ElaboratedCall}
+use Rattle.hc_plan.specs.Elaborates.{Elaborated, ElaboratedCall}
 use Rattle.hc_signal.specs.Member.{Has}
 use Rattle.hc_signal.specs.Occurrences.{IsReachedPath, tree_at}
 use Rattle.hc_signal.specs.Tree.{Tree}

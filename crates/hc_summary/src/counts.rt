@@ -4,8 +4,8 @@ ghost use Rattle.hc_bench.specs.Listing.{CycleRow};
 ghost use Rattle.hc_bench.specs.Steps as spec;
 ghost use Rattle.hc_bench.specs.Trace.{IsRun};
 ghost use Rattle.hc_dbstate.specs.Elaboration.{IsElaboration};
-ghost use Rattle.hc_elab.specs.Elaborates.{Elaborated};
-ghost use Rattle.hc_elab.specs.Hierarchies.{IsHierarchyFor, LogsWalk};
+ghost use Rattle.hc_plan.specs.Elaborates.{Elaborated};
+ghost use Rattle.hc_plan.specs.Hierarchies.{IsHierarchyFor, LogsWalk};
 ghost use Rattle.hc_summary.specs.Summary.{IsSummary};
 
 use crate::lines::text_of;

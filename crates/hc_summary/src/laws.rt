@@ -1,7 +1,7 @@
 //! Laws of summaries.
 ghost use Rattle.std.specs.Prelude.{◌≡◌, ℕ, List};
 ghost use Rattle.hc_bench.specs.Listing.{CycleRow};
-ghost use Rattle.hc_elab.specs.Elaborates.{Elaborated};
+ghost use Rattle.hc_plan.specs.Elaborates.{Elaborated};
 ghost use Rattle.hc_summary.specs.Summary.{IsSummary};
 
 /// A design and its rows have one summary.

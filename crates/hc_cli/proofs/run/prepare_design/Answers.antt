@@ -1,7 +1,7 @@
 use Rattle.std.proofs.Common.{sym, subst, ◌∙◌}
 use Rattle.std.proofs.lemmas.Result.{IfOk-weaker}
 use Rattle.hc_dbstate.specs.History.{History}
-use Rattle.hc_elab.specs.Hierarchies.{LogsWalk}
+use Rattle.hc_plan.specs.Hierarchies.{LogsWalk}
 use Rattle.hc_cli.proofs.DueLaws.{serves_broken, serves_operation}
 use Rattle.hc_cli.proofs.run.prepare_design.Goals as goal
 

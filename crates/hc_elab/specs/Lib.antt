@@ -1,3 +1,0 @@
-pub mod Elaborates
-pub mod Hierarchies
-pub mod Calls

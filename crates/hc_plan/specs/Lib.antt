@@ -1,0 +1,9 @@
+pub mod Elaborates
+pub mod Loops
+pub mod Distinct
+pub mod Plan
+pub mod Hierarchies
+pub mod Finishing
+pub mod Planning
+pub mod Stepping
+pub mod Concluded

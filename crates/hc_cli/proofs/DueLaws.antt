@@ -6,7 +6,7 @@ use Rattle.std.proofs.lemmas.Result.{IfOk-weaker}
 use Rattle.hc_fault.specs.declared.memory.NoMemory.{NoMemory}
 use Rattle.hc_fault.specs.declared.fault.Refused.{Refused}
 use Rattle.hc_fault.specs.declared.fault.Refused.TheVariants as refusals
-use Rattle.hc_elab.specs.Calls.{FaultIs}
+use Rattle.hc_plan.specs.Planning.{FaultIs}
 use Rattle.hc_fault.specs.declared.fault.Fault.{Fault}
 use Rattle.hc_fault.specs.declared.fault.FaultKind.{FaultKind}
 use Rattle.hc_fault.specs.declared.fault.FaultKind.TheVariants.{TooLong}

@@ -15,7 +15,7 @@ use crate::kinds::{Output, Played};
 use crate::modules::modules_text;
 use hc_bench::kinds::Bench;
 use hc_dbstate::{DbState, Hier};
-use hc_elab::elaborated_trees;
+use hc_plan::elaborated_trees;
 use hc_fault::{Name, NoMemory};
 use hc_signal::Circuit;
 use hc_summary::summary;

@@ -1,7 +1,6 @@
 -- A graph in which no row of another got lost keeps what is lawful there.
-use Rattle.std.proofs.Common.{◌≡◌, ℕ, ◌+◌, ◌<◌, ◌≤◌, List, [], ◌∷◌, map, refl, sym, ◌∙◌, ap, arith}
+use Rattle.std.proofs.Common.{◌≡◌, ℕ, List, [], ◌∷◌, ◌∙◌, ap}
 use Rattle.std.specs.Prelude.{slice_get, Option, Some, None}
-use Rattle.hc_signal.specs.Member.{Has, first, later}
 use Rattle.hc_signal.specs.declared.signal.Port.{Port}
 use Rattle.hc_signal.specs.declared.signal.NodeId.{NodeId}
 use Rattle.hc_signal.specs.declared.signal.NodeRow.{NodeRow}
@@ -10,7 +9,7 @@ use Rattle.hc_signal.specs.declared.signal.Node.TheVariants.{Input, Wire, Const,
 use Rattle.hc_signal.specs.declared.signal.Memory.{Memory}
 use Rattle.hc_signal.specs.declared.signal.WritePort.{WritePort}
 use Rattle.hc_signal.specs.declared.signal.Instance.{Instance}
-use Rattle.hc_bits.specs.BitVector.{BitVector, IsVector}
+use Rattle.hc_bits.specs.BitVector.{BitVector}
 use Rattle.hc_signal.specs.Graph.{Graph}
 use Rattle.hc_signal.specs.Lawful.{HasWidth, AllHaveWidth, MayHaveWidth, MayClear, HaveWidths, IsLawfulNode, IsLawfulWrite, IsLawfulMemory, IsLawfulInstance}
 

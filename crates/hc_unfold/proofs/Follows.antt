@@ -1,25 +1,23 @@
 -- A call whose rules hold makes a lawful row.
-use Rattle.std.proofs.Common.{◌≡◌, ℕ, zero, suc, ◌+◌, ◌<◌, ◌≤◌, ◌^◌, Bool, true, false, ◌&&◌, ◌==◌, nat_le, List, [], ◌∷◌, map, length, get_or, refl, sym, subst, ◌∙◌, ap, arith}
+use Rattle.std.proofs.Common.{◌≡◌, ℕ, zero, suc, ◌+◌, ◌<◌, ◌≤◌, ◌^◌, Bool, true, false, ◌==◌, nat_le, List, [], ◌∷◌, length, refl, sym, subst, ap, arith}
 use Rattle.std.specs.Prelude.{slice_get, sum, Option, Some, None}
 use Rattle.std.specs.List.{list_all}
 use Rattle.std.proofs.lemmas.Bool.{eqb-true, leb-true, and_parts}
-use Rattle.std.proofs.lemmas.Option.{slice_get-get_or}
 use Rattle.std.proofs.lemmas.List.{length-map}
 use Rattle.hc_fault.specs.declared.fault.FaultKind.{FaultKind}
 use Rattle.hc_fault.specs.declared.fault.FaultKind.TheVariants as fault
-use Rattle.hc_signal.specs.Member.{Has, first, later}
+use Rattle.hc_signal.specs.Member.{first, later}
 use Rattle.hc_signal.specs.declared.signal.NodeId.{NodeId}
-use Rattle.hc_signal.specs.declared.signal.NodeRow.{NodeRow}
 use Rattle.hc_signal.specs.declared.signal.Op2.{Op2}
 use Rattle.hc_signal.specs.declared.signal.Op2.TheVariants.{Add, Sub, Mulu, Muls, And, Or, Xor, Eq, Lt}
-use Rattle.hc_signal.specs.declared.signal.Node.TheVariants.{Wire, Two, Mux, Cat, Select, Op}
+use Rattle.hc_signal.specs.declared.signal.Node.TheVariants.{Two, Mux, Cat, Op}
 use Rattle.hc_bits.specs.BitVector.{IsWidth}
 use Rattle.hc_bits.specs.declared.kind.OpKind.{OpKind}
 use Rattle.hc_bits.specs.declared.kind.OpKind.TheVariants.{Popcount, Clz, Rev, Min, Max, SatAdd}
-use Rattle.hc_bits.specs.Catalogue.{arity, result_width, bits_of, leading_zeros}
+use Rattle.hc_bits.specs.Catalogue.{arity, result_width, bits_of}
 use Rattle.hc_signal.specs.Graph.{Graph}
 use Rattle.hc_signal.specs.Lawful.{IsLawfulNode, HasWidth, AllHaveWidth, HaveWidths, FitsTwo}
-use Rattle.hc_signal.specs.Rules.{rule, first_broken, is_width, two_rule, two_width, first_width, are_equal, mux_rule, cat_rule, op_rule, op_width}
+use Rattle.hc_signal.specs.Rules.{rule, first_broken, two_rule, two_width, first_width, are_equal, mux_rule}
 use Rattle.hc_signal.specs.Builds.{IsNode, AreNodes, width_at, widths_at, row_width}
 
 -- a rule that is not broken tells its test

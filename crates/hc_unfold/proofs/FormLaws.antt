@@ -1,20 +1,18 @@
 -- The changes that keep a graph formed.
-use Rattle.std.proofs.Common.{◌≡◌, ℕ, Bool, false, ◌<◌, length, refl, sym, subst, ap, ◌∙◌, inl, inr}
+use Rattle.std.proofs.Common.{◌≡◌, false, refl, sym, subst, ap, ◌∙◌, inl, inr}
 use Rattle.std.specs.Prelude.{slice_get, Some}
 use Rattle.std.proofs.lemmas.Bool.{or_parts}
-use Rattle.std.proofs.lemmas.Option.{slice_get_within, same_Some}
 use Rattle.hc_fault.specs.declared.name.Name.{Name}
 use Rattle.hc_signal.specs.declared.signal.InstId.{InstId}
 use Rattle.hc_signal.specs.declared.signal.MemId.{MemId}
 use Rattle.hc_signal.specs.declared.signal.Memory.{Memory}
 use Rattle.hc_signal.specs.declared.signal.Instance.{Instance}
-use Rattle.hc_signal.specs.declared.signal.Node.{Node}
 use Rattle.hc_signal.specs.declared.signal.NodeId.{NodeId}
 use Rattle.hc_signal.specs.declared.signal.NodeRow.{NodeRow}
 use Rattle.hc_signal.specs.declared.signal.WritePort.{WritePort}
 use Rattle.hc_signal.specs.Graph.{Graph}
 use Rattle.hc_signal.specs.Lawful.{HasWidth, IsLawful, IsLawfulMemory, IsLawfulWrite}
-use Rattle.hc_signal.specs.Builds.{IsInstance, IsMemory, IsNode, IsWire, driven_from, is_input_row, is_inner, is_output, is_port_node, labelled_memory, labelled_row, memory_width, memory_width_at, row_width, width_at, with_driver, with_instance_label, with_memory_label, with_node_label, with_write, written}
+use Rattle.hc_signal.specs.Builds.{IsInstance, IsMemory, IsNode, IsWire, driven_from, is_input_row, is_output, is_port_node, labelled_memory, labelled_row, memory_width, memory_width_at, row_width, width_at, with_driver, with_instance_label, with_memory_label, with_node_label, with_write, written}
 use Rattle.hc_unfold.specs.Formed.{AreFew, ChangesKeepForm, IsFormed}
 use Rattle.hc_unfold.proofs.RowPlaces.{has_from_place, has_pushed}
 use Rattle.hc_unfold.proofs.Follows.{has_its_width, some_at}

@@ -1,30 +1,17 @@
 -- A graph with one memory more, or a changed one, is formed.
-use Rattle.std.proofs.Common.{◌≡◌, ◌≢◌, ℕ, zero, suc, ◌+◌, ◌<◌, ◌≤◌, ◌⊎◌, Bool, true, false, not, ◌&&◌, ◌||◌, ◌==◌, List, [], ◌∷◌, ◌++◌, map, length, refl, sym, subst, ◌∙◌, ap, inl, inr, arith, append_assoc, append-nil}
-use Rattle.std.specs.Prelude.{slice_get, Option, Some, None}
-use Rattle.std.proofs.lemmas.Option.{slice_get_within, same_Some}
-use Rattle.std.proofs.lemmas.Bool.{cases_eq, cases_lt, or_parts, eq-eqb, true≢false}
-use Rattle.std.proofs.lemmas.List.{length_push}
-use Rattle.hc_fault.specs.declared.name.Name.{Name}
+use Rattle.std.proofs.Common.{◌≡◌, ◌≢◌, ℕ, ◌≤◌, ◌⊎◌, [], ◌∷◌, ◌++◌, refl, sym, subst, ◌∙◌, ap, inl, inr}
+use Rattle.std.specs.Prelude.{slice_get, Some, None}
+use Rattle.std.proofs.lemmas.Option.{same_Some}
+use Rattle.std.proofs.lemmas.Bool.{cases_eq}
 use Rattle.hc_bits.specs.BitVector.{IsWidth}
-use Rattle.hc_signal.specs.Member.{Has, first, later}
-use Rattle.hc_signal.specs.declared.signal.InstId.{InstId}
-use Rattle.hc_signal.specs.declared.signal.Instance.{Instance}
-use Rattle.hc_signal.specs.declared.signal.MemId.{MemId}
+use Rattle.hc_signal.specs.Member.{Has}
 use Rattle.hc_signal.specs.declared.signal.Memory.{Memory}
-use Rattle.hc_signal.specs.declared.signal.Node.{Node}
-use Rattle.hc_signal.specs.declared.signal.Node.TheVariants.{Input, Wire, Const, Two, Not, Mux, Cat, Select, Reg, Read, InstOut, Op}
-use Rattle.hc_signal.specs.declared.signal.NodeId.{NodeId}
-use Rattle.hc_signal.specs.declared.signal.NodeRow.{NodeRow}
-use Rattle.hc_signal.specs.declared.signal.Port.{Port}
-use Rattle.hc_signal.specs.declared.signal.Ports.{Ports}
-use Rattle.hc_signal.specs.declared.signal.WritePort.{WritePort}
 use Rattle.hc_signal.specs.Graph.{Graph}
-use Rattle.hc_signal.specs.Lawful.{IsLawfulNode, IsLawfulMemory, IsLawfulWrite, IsLawfulInstance, NodeAt, HasWidth, HaveWidths, HaveWidthsOf, ArePorts}
-use Rattle.hc_signal.specs.Builds.{IsNode, IsWire, IsMemory, IsInstance, with_row, unlabelled, port, is_inner, is_input, is_input_row, is_output, is_port_node, is_wire, is_labelled_row, driven_from, change_at, output_rows, written, labelled_row, labelled_memory, labelled_instance, width_at, memory_width_at, row_width, memory_width, with_driver, with_write, with_node_label, with_memory_label, with_instance_label}
-use Rattle.hc_unfold.specs.Formed.{IsFormed, more_inputs, more_outputs, more_memories, more_instances}
-use Rattle.hc_unfold.proofs.RowPlaces.{has_pushed, has_place, has_from_place, place_left, place_last, place_cases, place_right, changed_there, same_elsewhere, some_passes}
-use Rattle.hc_unfold.proofs.Extended.{Extends, has_width, lawful_node, lawful_memory, lawful_instance, have_widths}
-use Rattle.hc_unfold.proofs.Follows.{has_its_width, some_at}
+use Rattle.hc_signal.specs.Lawful.{IsLawfulMemory}
+use Rattle.hc_signal.specs.Builds.{change_at}
+use Rattle.hc_unfold.specs.Formed.{IsFormed}
+use Rattle.hc_unfold.proofs.RowPlaces.{has_pushed, has_place, has_from_place, place_left, changed_there, same_elsewhere}
+use Rattle.hc_unfold.proofs.Extended.{Extends, lawful_node, lawful_memory, lawful_instance, have_widths}
 
 module _ (g : Graph) (size w : ℕ) (width : IsWidth w) (some : 1 ≤ size) (few : size ≤ 65536) where
   abbrev new : Memory
@@ -105,4 +92,3 @@ module _ (g : Graph) (n : ℕ) (f : Memory → Memory) (old : Memory) (there : s
     no_label = l.no_label;
     one_output = l.one_output;
   }
-

@@ -1,29 +1,21 @@
 -- A graph with a changed node is formed.
-use Rattle.std.proofs.Common.{◌≡◌, ◌≢◌, ℕ, zero, suc, ◌+◌, ◌<◌, ◌≤◌, ◌⊎◌, Bool, true, false, not, ◌&&◌, ◌||◌, ◌==◌, List, [], ◌∷◌, ◌++◌, map, length, refl, sym, subst, ◌∙◌, ap, inl, inr, arith, append_assoc, append-nil}
-use Rattle.std.specs.Prelude.{slice_get, Option, Some, None}
-use Rattle.std.proofs.lemmas.Option.{slice_get_within, same_Some}
-use Rattle.std.proofs.lemmas.Bool.{cases_eq, cases_lt, or_parts, eq-eqb, true≢false}
-use Rattle.std.proofs.lemmas.List.{length_push}
+use Rattle.std.proofs.Common.{◌≡◌, ◌≢◌, ℕ, ◌⊎◌, true, false, ◌==◌, refl, sym, subst, ◌∙◌, ap, inl, inr}
+use Rattle.std.specs.Prelude.{slice_get, Some, None}
+use Rattle.std.proofs.lemmas.Option.{same_Some}
+use Rattle.std.proofs.lemmas.Bool.{cases_eq, eq-eqb, true≢false}
 use Rattle.hc_fault.specs.declared.name.Name.{Name}
 use Rattle.hc_bits.specs.BitVector.{IsWidth}
-use Rattle.hc_signal.specs.Member.{Has, first, later}
-use Rattle.hc_signal.specs.declared.signal.InstId.{InstId}
-use Rattle.hc_signal.specs.declared.signal.Instance.{Instance}
-use Rattle.hc_signal.specs.declared.signal.MemId.{MemId}
-use Rattle.hc_signal.specs.declared.signal.Memory.{Memory}
+use Rattle.hc_signal.specs.Member.{Has}
 use Rattle.hc_signal.specs.declared.signal.Node.{Node}
 use Rattle.hc_signal.specs.declared.signal.Node.TheVariants.{Input, Wire, Const, Two, Not, Mux, Cat, Select, Reg, Read, InstOut, Op}
 use Rattle.hc_signal.specs.declared.signal.NodeId.{NodeId}
 use Rattle.hc_signal.specs.declared.signal.NodeRow.{NodeRow}
-use Rattle.hc_signal.specs.declared.signal.Port.{Port}
-use Rattle.hc_signal.specs.declared.signal.Ports.{Ports}
-use Rattle.hc_signal.specs.declared.signal.WritePort.{WritePort}
 use Rattle.hc_signal.specs.Graph.{Graph}
-use Rattle.hc_signal.specs.Lawful.{IsLawfulNode, IsLawfulMemory, IsLawfulWrite, IsLawfulInstance, NodeAt, HasWidth, HaveWidths, HaveWidthsOf, ArePorts}
-use Rattle.hc_signal.specs.Builds.{IsNode, IsWire, IsMemory, IsInstance, with_row, unlabelled, port, is_inner, is_input, is_input_row, is_output, is_port_node, is_wire, is_labelled_row, driven_from, change_at, output_rows, written, labelled_row, labelled_memory, labelled_instance, width_at, memory_width_at, row_width, memory_width, with_driver, with_write, with_node_label, with_memory_label, with_instance_label}
-use Rattle.hc_unfold.specs.Formed.{IsFormed, more_inputs, more_outputs, more_memories, more_instances}
-use Rattle.hc_unfold.proofs.RowPlaces.{has_pushed, has_place, has_from_place, place_left, place_last, place_cases, place_right, changed_there, same_elsewhere, some_passes}
-use Rattle.hc_unfold.proofs.Extended.{Extends, has_width, lawful_node, lawful_memory, lawful_instance, have_widths}
+use Rattle.hc_signal.specs.Lawful.{IsLawfulNode, NodeAt, HasWidth}
+use Rattle.hc_signal.specs.Builds.{IsNode, is_inner, is_input, is_output, is_wire, driven_from, change_at, labelled_row, width_at}
+use Rattle.hc_unfold.specs.Formed.{IsFormed}
+use Rattle.hc_unfold.proofs.RowPlaces.{changed_there, same_elsewhere, some_passes}
+use Rattle.hc_unfold.proofs.Extended.{Extends, lawful_node, lawful_memory, lawful_instance, have_widths}
 use Rattle.hc_unfold.proofs.Follows.{has_its_width}
 
 -- what a new row at the place of an old one has to keep
@@ -144,4 +136,3 @@ labelled_replaces g id label row l there no_input no_output = record {
   input_label = λ k e. absurd (true≢false (sym (ap is_input e) ∙ no_input));
   output_label = λ o k at. (let yes : is_output g id.0 ≡ true = some_passes (λ (p : NodeId). p.0 == id.0) g.outputs o k (eq-eqb o.0 id.0 at) in absurd (true≢false (sym yes ∙ no_output)));
 }
-

@@ -1,19 +1,17 @@
 -- What is drawn keeps the form of a graph: the rules of steps.
-use Rattle.std.proofs.Common.{◌≡◌, ℕ, ◌<◌, ◌≤◌, Bool, true, false, List, [], ◌∷◌, ◌++◌, length, refl, sym, arith}
+use Rattle.std.proofs.Common.{◌≡◌, ℕ, Bool, true, false, List, refl, arith}
 use Rattle.std.proofs.lemmas.List.{length_push}
-use Rattle.std.specs.Prelude.{slice_get, Option, Some, None, Result, Ok, Err, if◌then◌else◌}
+use Rattle.std.specs.Prelude.{Option, Some, None, Result, Ok, Err, if◌then◌else◌}
 use Rattle.hc_fault.specs.declared.fault.FaultKind.{FaultKind}
 use Rattle.hc_bits.specs.BitVector.{IsWidth}
-use Rattle.hc_signal.specs.Member.{Has}
 use Rattle.hc_signal.specs.declared.signal.Node.{Node}
 use Rattle.hc_signal.specs.declared.signal.NodeId.{NodeId}
-use Rattle.hc_signal.specs.declared.signal.NodeRow.{NodeRow}
 use Rattle.hc_signal.specs.Graph.{Graph}
 use Rattle.hc_signal.specs.Lawful.{IsLawfulNode}
 use Rattle.hc_signal.specs.Builds.{AreNodes, IsNode, is_inner, unlabelled, width_at, with_row}
 use Rattle.hc_unfold.specs.Formed.{IsFormed}
 use Rattle.hc_unfold.specs.Gives.{Grows}
-use Rattle.hc_unfold.specs.Drawing.{Draws, adds, demand, given, go_on, next, rule, ◌>>=◌, ◌>>◌}
+use Rattle.hc_unfold.specs.Drawing.{Draws, adds, demand, given, go_on, rule, ◌>>◌}
 use Rattle.hc_unfold.proofs.Follows.{has_its_width}
 use Rattle.hc_unfold.proofs.FormedNodes.{formed_with_inner}
 use Rattle.hc_unfold.proofs.Growing.{grows_none, grows_on, row_added}

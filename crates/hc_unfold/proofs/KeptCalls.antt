@@ -1,14 +1,13 @@
 -- Each call keeps the form of a graph.
-use Rattle.std.proofs.Common.{◌≡◌, ℕ, ◌<◌, ◌≤◌, ◌==◌, List, [], ◌∷◌, length, arith}
-use Rattle.std.specs.Prelude.{Result, Ok, ℤ}
+use Rattle.std.proofs.Common.{◌==◌, List, [], ◌∷◌, length, arith}
+use Rattle.std.specs.Prelude.{ℤ}
 use Rattle.std.proofs.lemmas.Bool.{eqb-true}
 use Rattle.hc_fault.specs.declared.fault.FaultKind.TheVariants.{UnknownOp}
-use Rattle.hc_bits.specs.BitVector.{BitVector}
 use Rattle.hc_bits.specs.Catalogue.{arity}
 use Rattle.hc_bits.specs.declared.kind.OpKind.{OpKind}
 use Rattle.hc_sigtext.specs.declared.tree.CallWord.{CallWord}
 use Rattle.hc_sigtext.specs.declared.tree.CallWord.TheVariants as word
-use Rattle.hc_signal.specs.Member.{Has, first, later}
+use Rattle.hc_signal.specs.Member.{first, later}
 use Rattle.hc_signal.specs.declared.signal.NodeId.{NodeId}
 use Rattle.hc_signal.specs.declared.signal.Op2.TheVariants as op2
 use Rattle.hc_signal.specs.Graph.{Graph}

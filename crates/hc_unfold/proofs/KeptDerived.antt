@@ -1,18 +1,17 @@
 -- Each call that unfolds to several nodes keeps the form of a graph.
-use Rattle.std.proofs.Common.{◌≡◌, ℕ, zero, suc, ◌+◌, ◌-◌, ◌*◌, ◌^◌, ◌<◌, ◌≤◌, Bool, true, false, ◌==◌, ◌&&◌, nat_le, List, [], ◌∷◌, length, replicate, refl, sym, subst, arith}
-use Rattle.std.specs.Prelude.{nat_lt, if◌then◌else◌, Result, Ok, ℤ, pos, negsuc}
-use Rattle.std.proofs.lemmas.Bool.{and_parts, eqb-false, leb-true, leb-false, ltb-true, ltb-false}
+use Rattle.std.proofs.Common.{◌≡◌, ℕ, ◌-◌, ◌*◌, ◌<◌, ◌≤◌, false, ◌==◌, ◌&&◌, nat_le, [], ◌∷◌, length, replicate, refl, arith}
+use Rattle.std.specs.Prelude.{nat_lt, if◌then◌else◌, ℤ, pos, negsuc}
+use Rattle.std.proofs.lemmas.Bool.{and_parts, eqb-false, leb-true, leb-false, ltb-false}
 use Rattle.std.proofs.lemmas.List.{length-replicate}
 use Rattle.std.proofs.lemmas.Nat.{pow_below}
-use Rattle.hc_fault.specs.declared.fault.FaultKind.TheVariants.{Width, WidthMismatch, SelectRange}
-use Rattle.hc_bits.specs.BitVector.{BitVector, IsWidth}
+use Rattle.hc_fault.specs.declared.fault.FaultKind.TheVariants.{Width, WidthMismatch}
+use Rattle.hc_bits.specs.BitVector.{IsWidth}
 use Rattle.hc_signal.specs.declared.signal.NodeId.{NodeId}
 use Rattle.hc_signal.specs.declared.signal.Op2.TheVariants.{Xor, Lt, Eq}
 use Rattle.hc_signal.specs.Graph.{Graph}
-use Rattle.hc_signal.specs.Builds.{AreNodes, IsNode, width_at}
+use Rattle.hc_signal.specs.Builds.{IsNode, width_at}
 use Rattle.hc_unfold.specs.Formed.{IsFormed}
-use Rattle.hc_unfold.specs.Gives.{Grows}
-use Rattle.hc_unfold.specs.Drawing.{Draws, answer, as_width, cat, constant, given, invert, mux, select, two, width, ◌>>=◌, ◌>>◌}
+use Rattle.hc_unfold.specs.Drawing.{Draws, answer, as_width, cat, constant, given, invert, mux, two, width, ◌>>=◌}
 use Rattle.hc_unfold.specs.Derived.{copies, left, lts, msb, mux2, ne, not_lt, part, repeat, right, right_signed, shift, sign_bit, sign_extended, sll, sra, sresize, srl, uresize, zero_extended, zeros}
 use Rattle.hc_unfold.proofs.Lists.{same_nodes, two_nodes}
 use Rattle.hc_unfold.proofs.Keeping.{Keeps, kept_answer, kept_given, kept_if, kept_rule, kept_then, node_still, width_is}

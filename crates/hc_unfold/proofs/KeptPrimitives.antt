@@ -1,30 +1,28 @@
 -- Each primitive keeps the form of a graph.
-use Rattle.std.proofs.Common.{◌≡◌, ℕ, zero, suc, ◌+◌, ◌-◌, ◌^◌, ◌<◌, ◌≤◌, Bool, true, false, ◌==◌, ◌&&◌, nat_le, List, [], ◌∷◌, map, length, refl, sym, subst, ◌∙◌, arith, cond}
+use Rattle.std.proofs.Common.{◌≡◌, ℕ, ◌+◌, ◌-◌, ◌^◌, ◌<◌, ◌≤◌, Bool, true, false, ◌&&◌, nat_le, List, [], ◌∷◌, length, refl, sym, subst, arith, cond}
 use Rattle.std.specs.Prelude.{slice_get, sum, nat_lt, Option, Some, None, Result, Ok, Err, ℤ, pos, negsuc, nat_abs}
-use Rattle.std.proofs.lemmas.Bool.{and_parts, eqb-true, leb-true, ltb-true}
-use Rattle.std.proofs.lemmas.List.{length-map}
+use Rattle.std.proofs.lemmas.Bool.{and_parts, leb-true, ltb-true}
 use Rattle.std.proofs.lemmas.List.Sums.{sum_by-cons}
 use Rattle.std.proofs.lemmas.Nat.{pow_below}
 use Rattle.hc_fault.specs.declared.fault.FaultKind.{FaultKind}
 use Rattle.hc_fault.specs.declared.fault.FaultKind.TheVariants as fault
-use Rattle.hc_bits.specs.BitVector.{BitVector, IsBitVector, IsVector, IsWidth, from_i64}
+use Rattle.hc_bits.specs.BitVector.{BitVector, IsVector, IsWidth, from_i64}
 use Rattle.hc_bits.specs.Catalogue.{arity}
 use Rattle.hc_bits.specs.declared.kind.OpKind.{OpKind}
-use Rattle.hc_signal.specs.Member.{Has, first, later}
+use Rattle.hc_signal.specs.Member.{first}
 use Rattle.hc_signal.specs.declared.signal.MemId.{MemId}
 use Rattle.hc_signal.specs.declared.signal.Memory.{Memory}
 use Rattle.hc_signal.specs.declared.signal.Node.TheVariants as node
 use Rattle.hc_signal.specs.declared.signal.NodeId.{NodeId}
 use Rattle.hc_signal.specs.declared.signal.Op2.{Op2}
 use Rattle.hc_signal.specs.Graph.{Graph}
-use Rattle.hc_signal.specs.Lawful.{HasWidth, IsLawfulNode}
-use Rattle.hc_signal.specs.Rules.{are_equal, cat_rule, first_width, is_width, mux_rule, op_rule, op_width, rule, select_rule, select_width, two_rule, two_width, width_rule}
+use Rattle.hc_signal.specs.Lawful.{IsLawfulNode}
+use Rattle.hc_signal.specs.Rules.{are_equal, cat_rule, first_width, is_width, mux_rule, op_rule, op_width, rule, select_rule, select_width, two_rule, two_width}
 use Rattle.hc_signal.specs.Builds.{AreNodes, IsMemory, IsNode, memory_width, memory_width_at, width_at, widths_at}
 use Rattle.hc_unfold.specs.Formed.{IsFormed}
-use Rattle.hc_unfold.specs.Drawing.{adds, and_then, as_width, cat, constant, found, invert, literal, mux, number_bits, operation, read, select, two, unless}
+use Rattle.hc_unfold.specs.Drawing.{and_then, as_width, cat, constant, found, invert, literal, mux, number_bits, operation, read, select, two, unless}
 use Rattle.hc_unfold.proofs.RowPlaces.{has_from_place}
-use Rattle.hc_unfold.proofs.Follows.{all_have, cat_follows, has_its_width, mux_follows, op_follows, result_has_width, some_at, takes_some, test_holds, two_fits}
-use Rattle.hc_unfold.proofs.Growing.{grows_none}
+use Rattle.hc_unfold.proofs.Follows.{cat_follows, has_its_width, mux_follows, op_follows, result_has_width, some_at, takes_some, test_holds, two_fits}
 use Rattle.hc_unfold.proofs.Keeping.{Keeps, kept_adds, kept_answer, width_is}
 
 -- ---- values
@@ -159,5 +157,7 @@ module _ (g : Graph) (l : IsFormed g) where
       let some : 1 ≤ length args = (let t : 1 ≤ arity kind = takes_some kind in omega (arith, t, many)) in
       let ws : List ℕ = widths_at g args in
       kept_adds g (op_rule ws) (op_width kind ws) (node.Op kind args) l
-      (λ holds. (result_has_width kind (first_width ws) (first_is_width args nodes some),
-      op_follows g kind args (first_width ws) nodes many (test_holds fault.WidthMismatch (are_equal ws) holds))) refl
+      (λ holds. (
+        result_has_width kind (first_width ws) (first_is_width args nodes some),
+        op_follows g kind args (first_width ws) nodes many (test_holds fault.WidthMismatch (are_equal ws) holds),
+      )) refl

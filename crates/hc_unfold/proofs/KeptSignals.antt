@@ -1,13 +1,10 @@
 -- A signal that is drawn keeps the form of a graph.
-use Rattle.std.proofs.Common.{◌≡◌, ℕ, ◌+◌, ◌<◌, ◌≤◌, Bool, true, false, cond, List, [], ◌∷◌, length, refl, subst, arith}
+use Rattle.std.proofs.Common.{◌≡◌, ℕ, ◌+◌, ◌<◌, Bool, true, false, cond, List, [], ◌∷◌, length, refl, subst, arith}
 use Rattle.std.specs.Prelude.{Option, Some, None, Result, Ok, Err, ℤ, slice_get}
 use Rattle.hc_fault.specs.declared.fault.FaultKind.{FaultKind}
 use Rattle.hc_fault.specs.declared.fault.FaultKind.TheVariants.{UnknownName, UnknownOp, UnknownPort}
 use Rattle.hc_bits.specs.Catalogue.{find_kind}
-use Rattle.hc_bits.specs.declared.kind.OpKind.{OpKind}
-use Rattle.hc_num.specs.Value.{Outcome}
-use Rattle.hc_sigtext.specs.declared.tree.CallWord.{CallWord}
-use Rattle.hc_signal.specs.Member.{Has, first, later}
+use Rattle.hc_signal.specs.Member.{first, later}
 use Rattle.hc_signal.specs.declared.signal.InstId.{InstId}
 use Rattle.hc_signal.specs.declared.signal.MemId.{MemId}
 use Rattle.hc_signal.specs.declared.signal.NodeId.{NodeId}
@@ -19,7 +16,7 @@ use Rattle.hc_unfold.specs.Gives.{Grows}
 use Rattle.hc_unfold.specs.Names.{AreKnown, Key, Names, Target, as_instance, as_memory, as_node, meaning}
 use Rattle.hc_unfold.specs.declared.names.Target.TheVariants as target
 use Rattle.hc_unfold.specs.Signals.{Call, Named, Op, Output, Place, Read, Signal, Signals, Sized, more, none}
-use Rattle.hc_unfold.specs.Drawing.{Draws, and_then, answer, constant, demand, found, given, literal, read, ◌>>=◌}
+use Rattle.hc_unfold.specs.Drawing.{and_then, answer, constant, demand, found, given, literal, read, ◌>>=◌}
 use Rattle.hc_unfold.specs.Places.{key, meant, numbers}
 use Rattle.hc_unfold.specs.Outputs.{instance_output, output_from, output_node, output_place, stands_for}
 use Rattle.hc_unfold.specs.Calls.{called, operated}

@@ -1,5 +1,5 @@
 -- Places in lists: after an append, and after a change of one element.
-use Rattle.std.proofs.Common.{◌≡◌, ◌≢◌, ℕ, zero, suc, ◌+◌, ◌⊎◌, Bool, true, ◌||◌, List, [], ◌∷◌, ◌++◌, length, refl, sym, subst, ap, ◌∙◌, inl, inr, arith}
+use Rattle.std.proofs.Common.{◌≡◌, ◌≢◌, ℕ, zero, suc, ◌+◌, ◌⊎◌, Bool, true, List, [], ◌∷◌, ◌++◌, length, refl, sym, subst, ap, ◌∙◌, inl, inr, arith}
 use Rattle.std.specs.Prelude.{slice_get, Some}
 use Rattle.std.specs.List.{list_any}
 use Rattle.std.proofs.lemmas.Option.{same_Some}
@@ -64,4 +64,3 @@ pub some_passes : {X : Type 0} (p : X → Bool) (xs : List X) (x : X) → Has xs
 some_passes p (y ∷ xs) x first e = rw e refl
 some_passes p (y ∷ xs) x (later h) e = or_right (p y) (list_any p xs) (some_passes p xs x h e)
 some_passes p [] x h e = elim h [ ]
-

@@ -11,7 +11,6 @@ use Rattle.hc_signal.specs.declared.signal.Node.{Node}
 use Rattle.hc_signal.specs.declared.signal.Node.TheVariants.{Input, Wire, InstOut}
 use Rattle.hc_signal.specs.declared.signal.NodeId.{NodeId}
 use Rattle.hc_signal.specs.declared.signal.NodeRow.{NodeRow}
-use Rattle.hc_signal.specs.declared.signal.Port.{Port}
 use Rattle.hc_signal.specs.declared.signal.Ports.{Ports}
 use Rattle.hc_signal.specs.declared.signal.WritePort.{WritePort}
 use Rattle.hc_signal.specs.Graph.{Graph}

@@ -11,6 +11,7 @@ mod lookup;
 mod rows;
 mod step;
 mod sums;
+mod whole_laws;
 
 pub use conclude::conclude;
 pub use depth_first::plan;
@@ -23,3 +24,4 @@ pub use laws::{
 };
 pub use step::{Step, form_of};
 pub use sums::Sums;
+pub use whole_laws::elaborated_trees_are_whole;

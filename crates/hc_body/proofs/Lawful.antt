@@ -1,6 +1,6 @@
 -- The circuit of a body is lawful: its heads and statements keep it formed, and its rows are few.
 use Rattle.std.proofs.Common.{◌≡◌, ℕ, zero, suc, ◌+◌, ◌*◌, ◌<◌, ◌≤◌, ◌⊎◌, inl, inr, Bool, true, false, List, [], ◌∷◌, ◌++◌, length, refl, sym, subst, ap, ◌∙◌, arith}
-use Rattle.std.specs.Prelude.{if◌then◌else◌, nat_le, sum_by, Result, Ok, Err, ℤ}
+use Rattle.std.specs.Prelude.{if◌then◌else◌, nat_le, None, sum_by, Result, Ok, Err, ℤ}
 use Rattle.std.proofs.lemmas.Bool.{cases_lt, leb-true}
 use Rattle.std.proofs.lemmas.List.{length_push}
 use Rattle.std.proofs.lemmas.List.Sums.{sum_by-cons}
@@ -10,7 +10,9 @@ use Rattle.hc_fault.specs.declared.fault.Path.{Path}
 use Rattle.hc_lang.specs.declared.tree.CircuitText.{CircuitText}
 use Rattle.hc_lang.specs.declared.tree.Design.{Design}
 use Rattle.hc_lang.specs.declared.tree.Head.{Head}
+use Rattle.hc_signal.specs.declared.signal.Node.TheVariants.{Input, Wire}
 use Rattle.hc_signal.specs.declared.signal.Port.{Port}
+use Rattle.hc_signal.specs.Builds.{port, unlabelled}
 use Rattle.hc_signal.specs.Checked.{Breaks, IsChecked, Rule, all_driven, few_ports, some_output}
 use Rattle.hc_signal.specs.Graph.{Graph}
 use Rattle.hc_signal.specs.Lawful.{IsLawful}
@@ -47,12 +49,12 @@ record IsOfHeads (g : Graph) : Type 0 where
 
 of_head : (h : Head) (w : ℕ) (b : Bool) (e : Elaborating) → IsOfHeads e.graph → IsOfHeads (if b then open_input e h.name w else open_output e h.line h.name w).graph
 of_head h w true e are = record {
-  nodes = let n : _ = length_push e.graph.nodes _ in let p : _ = length_push e.graph.ports.inputs _ in let was : _ = are.nodes in omega (arith, n, p, was);
+  nodes = let n : _ = length_push e.graph.nodes (unlabelled w (Input (length e.graph.ports.inputs))) in let p : _ = length_push e.graph.ports.inputs (port h.name w) in let was : _ = are.nodes in omega (arith, n, p, was);
   memories = are.memories;
   instances = are.instances;
 }
 of_head h w false e are = record {
-  nodes = let n : _ = length_push e.graph.nodes _ in let p : _ = length_push e.graph.ports.outputs _ in let was : _ = are.nodes in omega (arith, n, p, was);
+  nodes = let n : _ = length_push e.graph.nodes (unlabelled w (Wire None)) in let p : _ = length_push e.graph.ports.outputs (port h.name w) in let was : _ = are.nodes in omega (arith, n, p, was);
   memories = are.memories;
   instances = are.instances;
 }
@@ -141,7 +143,7 @@ module _ (d : Design) (statements : StatementsForm d) (heads : HeadsForm) (path 
       with_few_ports : (e : Elaborating) → call_elaborated d path c args ≡ Ok e → length e.graph.ports.inputs ≤ 128 → length e.graph.ports.outputs ≤ 128 → IsAnswered
       with_few_ports e is inputs outputs = elim (verdict e.graph (small_lawful e (call_small c args e is) inputs outputs)) [
         | inl checked ↦ (Ok (body_of c args e), whole e is checked)
-        | inr broken ↦ breaks_so e is broken.0 broken.1 broken.2
+        | inr first ↦ breaks_so e is first.0 first.1 first.2
       ]
 
       with_ports : (e : Elaborating) → call_elaborated d path c args ≡ Ok e → 1 ≤ length e.graph.ports.outputs → IsAnswered

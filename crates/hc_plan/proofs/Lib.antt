@@ -28,3 +28,4 @@ pub mod Tops
 pub mod Again
 pub mod Ends
 pub mod WholeTrees
+pub mod Answered

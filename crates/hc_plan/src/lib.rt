@@ -1,6 +1,7 @@
 //! The distinct calls of a design, each with its body, or the first fault that the tree of calls shows.
 #![tactic(auto)]
 
+mod answer_laws;
 mod conclude;
 mod deep;
 mod depth_first;
@@ -13,6 +14,7 @@ mod step;
 mod sums;
 mod whole_laws;
 
+pub use answer_laws::designs_have_answers;
 pub use conclude::conclude;
 pub use depth_first::plan;
 pub use hierarchy::hier_of;

@@ -67,13 +67,14 @@ module _ (d : Design) (answers : HaveAnswers d) (have_children : HaveChildren d)
   children_told : (level : ℕ) (path : Path) → (level < most_levels → (at : Path) (call : Call) → IsCall d call → NotNot (Told (suc level) at call)) → (children : List Child) → AreCalls children → (sums : Sums) → NotNot (AllTold level path sums children)
   children_told level path below [] calls sums = surely ([], Ok (sums, []), no_more)
   children_told level path below (child ∷ more) calls sums = elim (cases_lt level most_levels) [
-    | inl above ↦ surely_then (below above (child_path path child.ident) child.call (calls zero child refl)) (λ (t : Told (suc level) (child_path path child.ident) child.call). told_so above t.0 t.1 t.2)
+    | inl above ↦ surely_then (below above (child_path path child.ident) child.call (calls zero child refl))
+        (λ (t : Told (suc level) (child_path path child.ident) child.call). told_so above t.0 t.1 t.2 (λ s. children_told level path below more (λ i c is. calls (suc i) c is) s))
     | inr deep ↦ surely ([], Err (fault_at path TooDeep child.line), too_deep deep)
   ]
     where
-      told_so : level < most_levels → (done : List FinishedCall) (r : Result Elaborated Fault) → Elaborates L d (suc level) (child_path path child.ident) child.call done r → NotNot (AllTold level path sums (child ∷ more))
-      told_so above done (Ok kid) own = after_kid level path sums child more above kid done own (λ s. children_told level path below more (λ i c is. calls (suc i) c is) s)
-      told_so above done (Err f) own = surely (done, Err f, fault_in_child f above own)
+      told_so : level < most_levels → (done : List FinishedCall) (r : Result Elaborated Fault) → Elaborates L d (suc level) (child_path path child.ident) child.call done r → ((s : Sums) → NotNot (AllTold level path s more)) → NotNot (AllTold level path sums (child ∷ more))
+      told_so above done (Ok kid) own rest = after_kid level path sums child more above kid done own rest
+      told_so above done (Err f) own rest = surely (done, Err f, fault_in_child f above own)
 
   call_told : (level : ℕ) (path : Path) (call : Call) → IsCall d call → (level < most_levels → (at : Path) (other : Call) → IsCall d other → NotNot (Told (suc level) at other)) → NotNot (Told level path call)
   call_told level path call (c, of) below = by (answers c call.args path)

@@ -16,11 +16,12 @@ use Rattle.hc_words.proofs.Law.{verb_lawful}
 -- one of some names
 verb_among : (vs : List Verb) (v : Text) → list_any (λ name. bytes_eq name v) (map name_of vs) ≡ true → (w : Verb) × (name_of w ≡ v)
 verb_among [] v e = absurd (true≢false (sym e))
-verb_among (w ∷ vs) v e = by (bytes_eq (name_of w) v) refl e
+verb_among (w ∷ vs) v e = by (bytes_eq (name_of w) v) refl e (λ later. verb_among vs v later)
   where
-    by : (b : Bool) → bytes_eq (name_of w) v ≡ b → (b || list_any (λ name. bytes_eq name v) (map name_of vs)) ≡ true → (w : Verb) × (name_of w ≡ v)
-    by true is e' = (w, (bytes_eq-Decides (name_of w) v).0 is)
-    by false is e' = verb_among vs v e'
+    by : (b : Bool) → bytes_eq (name_of w) v ≡ b → (b || list_any (λ name. bytes_eq name v) (map name_of vs)) ≡ true
+        → (list_any (λ name. bytes_eq name v) (map name_of vs) ≡ true → (x : Verb) × (name_of x ≡ v)) → (x : Verb) × (name_of x ≡ v)
+    by true is e' more = (w, (bytes_eq-Decides (name_of w) v).0 is)
+    by false is e' more = more e'
 
 spelled_job : (words : List Text) (xs : List Item) → IsSpelledBy words xs → (job : Job) × IsJob words job
 spelled_job words xs s =

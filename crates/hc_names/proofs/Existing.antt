@@ -24,7 +24,7 @@ has_or_not (y ∷ xs) x = by (bytes_eq y x) refl (has_or_not xs x)
     by : (b : Bool) → bytes_eq y x ≡ b → Has xs x ⊎ (Has xs x → ⊥) → Has (y ∷ xs) x ⊎ (Has (y ∷ xs) x → ⊥)
     by true is rest = inl (subst (λ z. Has (y ∷ xs) z) ((bytes_eq-Decides y x).0 is) first)
     by false is (inl h) = inl (later h)
-    by false is (inr no) = inr (λ h. elim (has_cons h) [ inl same ↦ true≢false (sym ((bytes_eq-Decides y x).1 same) ∙ is) | inr h' ↦ no h' ])
+    by false is (inr lacks) = inr (λ h. elim (has_cons h) [ inl same ↦ true≢false (sym ((bytes_eq-Decides y x).1 same) ∙ is) | inr more ↦ lacks more ])
 
 -- ---- the first free number
 
@@ -78,4 +78,4 @@ named_calls [] given few none = none ([], refl)
 named_calls (call ∷ calls) given few none =
     named_call given call (omega (arith, few)) (λ (x : HasName given call).
     (let many : length (given ++ (call, x.0) ∷ []) ≡ length given + 1 = length_push given (call, x.0) in
-    named_calls calls (given ++ (call, x.0) ∷ []) (omega (arith, few, many)) (λ (rest : Named (given ++ (call, x.0) ∷ []) calls). none (x.0 ∷ rest.0, x.1, rest.1))))
+    named_calls calls (given ++ (call, x.0) ∷ []) (omega (arith, few, many)) (λ (rest : Named (given ++ (call, x.0) ∷ []) calls). none (x.0 ∷ rest.0, (x.1, rest.1)))))

@@ -1,4 +1,5 @@
-# How many bits of x are one: a tree of adders that halves its input until one bit is left.
+# How many bits of x are one: a tree of adders that halves its input until one bit is left. A circuit may have instances of
+# itself, with other numbers: `if` looks at numbers, before hardware is built.
 circuit ones n
 input x n
 output c bits(n)
@@ -10,3 +11,10 @@ else
   assign c add(uresize(low.c,bits(n)),uresize(high.c,bits(n)))
 end
 top ones 16
+
+bench
+set x 16'h8001
+cycle
+set x -1
+cycle
+end

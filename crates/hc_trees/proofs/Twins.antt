@@ -1,10 +1,11 @@
--- Trees that are the same have the same walks.
-use Rattle.std.proofs.Common.{◌≡◌, ℕ, List, [], ◌∷◌, map, refl, sym, subst, subst₂, ◌∙◌, ap, ap₂}
+-- Trees that are the same have the same walks, loops and masks.
+use Rattle.std.proofs.Common.{◌≡◌, ℕ, ◌↔◌, List, [], ◌∷◌, map, length, refl, sym, subst, subst₂, ◌∙◌, ap, ap₂}
 use Rattle.std.proofs.lemmas.Option.{slice_get-map}
 use Rattle.std.specs.Prelude.{slice_get, Option, Some, None, option_map, option_to_list}
 use Rattle.hc_signal.specs.Member.{Has, first, later}
-use Rattle.hc_walk.proofs.Members.{has_map}
+use Rattle.hc_walk.proofs.Members.{has_map, has_slice}
 use Rattle.hc_signal.specs.declared.signal.NodeId.{NodeId}
+use Rattle.hc_signal.specs.declared.signal.Ports.{Ports}
 use Rattle.hc_signal.specs.declared.signal.Instance.{Instance}
 use Rattle.hc_signal.specs.declared.signal.Node.{Node}
 use Rattle.hc_signal.specs.declared.signal.Node.TheVariants.{Input, Wire, Const, Two, Not, Mux, Cat, Select, Reg, Read, InstOut, Op}
@@ -12,10 +13,11 @@ use Rattle.hc_signal.specs.Graph.{Graph, Vertex, node, inst, Reached, output, fu
 use Rattle.hc_signal.specs.Tree.{Tree, none, tree, graph, kid, empty}
 use Rattle.hc_signal.specs.Renumber.{Renumbering, renumber, id_by, node_by, row_by, instance_by}
 use Rattle.hc_canon.specs.Same.{IsIsomorphism, Same}
-use Rattle.hc_signal.specs.Occurrences.{tree_at, graph_at, NodeIs, IsReachedPath, comb_fanin, connection, connection_of, CombStep, inside, down, up, CombPath, here, on, HasCombLoop}
+use Rattle.hc_signal.specs.Occurrences.{tree_at, graph_at, NodeIs, IsReachedPath, comb_fanin, connection, connection_of, CombStep, inside, down, up, CombPath, here, on, HasCombLoop, DependsOn, AreMasks}
 use Rattle.hc_canon.proofs.Renumbered.{number}
-use Rattle.hc_canon.proofs.Isomorphisms.{same-refl, fanin_paired, outputs_paired, reached_to}
+use Rattle.hc_canon.proofs.Isomorphisms.{same-refl, same-sym, fanin_paired, outputs_paired, reached_to}
 use Rattle.hc_paths.proofs.Composed.{step_reached, reached_fanin}
+use Rattle.hc_trees.specs.Twins.{SomePairs, Partners, top, below, Twin, NextTwin, LastTwin, HavePartners}
 
 -- A pairing is determined on all that is reached.
 head_place : Vertex → List Vertex → Vertex
@@ -37,11 +39,6 @@ pairing_once to back out home g h e f (further p q r c) =
     maps_agree (renumber to) (renumber out)
     (sym (fanin_paired to back g h e p r) ∙ ap (fanin h) (pairing_once to back out home g h e f r) ∙ fanin_paired out home g h f p r) c
 
--- Paths of partners.
-pub data Partners (s t : Tree) : List ℕ → List ℕ → Type 0 where
-  top : Partners s t [] []
-  below : {p q : List ℕ} {i j : ℕ} (to back : Renumbering) → Partners s t p q → IsIsomorphism to back (graph_at s p) (graph_at t q) → Reached (graph_at s p) (inst i) → to.inst i ≡ j → Partners s t (i ∷ p) (j ∷ q)
-
 pub same_kid : (a b : Tree) (to back : Renumbering) (i : ℕ) → Same a b → IsIsomorphism to back (graph a) (graph b) → Reached (graph a) (inst i) → Same (kid a i) (kid b (to.inst i))
 same_kid none none to back i s e r = tt
 same_kid none (tree h b) to back i s e r = absurd s
@@ -52,9 +49,6 @@ same_kid (tree g a) (tree h b) to back i s e r =
 pub same_at : (s t : Tree) → Same s t → {p q : List ℕ} → Partners s t p q → Same (tree_at s p) (tree_at t q)
 same_at s t e top = e
 same_at s t e (below {p = p} {q = q} {i = i} to back u x r k) = subst (λ j. Same (kid (tree_at s p) i) (kid (tree_at t q) j)) k (same_kid (tree_at s p) (tree_at t q) to back i (same_at s t e u) x r)
-
-abbrev pub SomePairs : Graph → Graph → Type 0
-SomePairs g h = (to : Renumbering) × (back : Renumbering) × IsIsomorphism to back g h
 
 pub pairs_of : (a b : Tree) → Same a b → SomePairs (graph a) (graph b)
 pairs_of none none s = let x : Same (tree empty (λ _. none)) (tree empty (λ _. none)) = same-refl (tree empty (λ _. none)) in (x.0, x.1, x.2)
@@ -68,15 +62,6 @@ partners_once s t (below {p = p} {q = q} {i = i} to back u x a k) (below {q = r}
     let e : q ≡ r = partners_once s t u v in
     let z : IsIsomorphism out home (graph_at s p) (graph_at t q) = subst (λ z. IsIsomorphism out home (graph_at s p) (graph_at t z)) (sym e) y in
     ap₂ (λ m ms. m ∷ ms) (sym k ∙ ap number (pairing_once to back out home (graph_at s p) (graph_at t q) x z a) ∙ l) e
-
--- Occurrences of partners.
-pub record Twin (s t : Tree) (p : List ℕ) (n : ℕ) (q : List ℕ) (m : ℕ) : Type 0 where
-  pub paths : Partners s t p q
-  pub to : Renumbering
-  pub back : Renumbering
-  pub pairs : IsIsomorphism to back (graph_at s p) (graph_at t q)
-  pub reached : Reached (graph_at s p) (node n)
-  pub goes : to.node n ≡ m
 
 twin_once : (s t : Tree) {p q r : List ℕ} {n m k : ℕ} → Twin s t p n q m → Twin s t p n r k → (q ≡ r) × (m ≡ k)
 twin_once s t {p} {q} {r} {n} a b =
@@ -113,9 +98,6 @@ connection_by g h to back e i port r = ap (λ o. connection_of o port) (e.instan
     go : (o : Option Instance) → connection_of (option_map (instance_by to) o) port ≡ option_map (id_by to) (connection_of o port)
     go None = refl
     go (Some it) = slice_get-map (id_by to) it.conns port
-
-abbrev pub NextTwin : Tree → Tree → List ℕ → ℕ → List ℕ → ℕ → Type 0
-NextTwin s t p n q m = (r : List ℕ) × (k : ℕ) × Twin s t p n r k × CombStep t q m r k
 
 pub partners_reached : (s t : Tree) {p q : List ℕ} → Partners s t p q → IsReachedPath s p
 partners_reached s t top = tt
@@ -155,10 +137,6 @@ twin_needs s t e {p} {q} {n = n} {m = m} {k = k} w (down {i = i} port y o) = twi
 twin_needs s t e {q = q} {n = n} {m = m} {k = k} w (up {path = p} {i = i} port y o) =
     twin_up s t p i q n m port k w.paths (twin_node s t (Input port) w y) o (twin_reached s t w (up port y o))
 
--- a walk, at twins
-abbrev pub LastTwin : Tree → Tree → List ℕ → ℕ → List ℕ → ℕ → Type 0
-LastTwin s t p n q m = (r : List ℕ) × (k : ℕ) × Twin s t p n r k × CombPath t q m r k
-
 pub twin_leads : (s t : Tree) → Same s t → {p q to : List ℕ} {n m k : ℕ} → Twin s t p n q m → CombPath s p n to k → LastTwin s t to k q m
 twin_leads s t e {q = q} {m = m} w here = (q, m, w, here)
 twin_leads s t e w (on x v) =
@@ -193,3 +171,53 @@ loop_of_same s t e x =
     let c : _ = twin_leads s t e b.2 x.4 in
     let o : _ = twin_once s t c.2 a.2 in
     (record { path = a.0; node = a.1 }, record { path = b.0; node = b.1 }, twin_is_reached s t a.2, b.3, subst₂ (λ r k. CombPath t b.0 b.1 r k) o.0 o.1 c.3)
+
+top_only : (s t : Tree) {q : List ℕ} → Partners s t [] q → q ≡ []
+top_only s t top = refl
+
+depends_of_same : (s t : Tree) → Same s t → (port input : ℕ) → DependsOn s port input → DependsOn t port input
+depends_of_same s t e port input d =
+    let z : SomePairs (graph s) (graph t) = pairs_of s t e in
+    let o : Reached (graph s) (node d.0) = output (node d.0) (has_map (λ (x : NodeId). node x.0) (has_slice (graph s).outputs port (record { 0 = d.0 }) d.2)) in
+    let w : Twin s t [] d.0 [] (z.0.node d.0) = record { paths = top; to = z.0; back = z.1; pairs = z.2; reached = o; goes = refl } in
+    let l : LastTwin s t [] d.1 [] (z.0.node d.0) = twin_leads s t e w d.4 in
+    let r : l.0 ≡ [] = top_only s t l.2.paths in (
+      z.0.node d.0,
+      l.1,
+      ap (λ x. slice_get x port) z.2.outputs ∙ slice_get-map (id_by z.0) (graph s).outputs port ∙ ap (option_map (id_by z.0)) d.2,
+      subst (λ q. NodeIs t q l.1 (Input input)) r (twin_node s t (Input input) l.2 d.3),
+      subst (λ q. CombPath t [] (z.0.node d.0) q l.1) r l.3,
+    )
+
+pub ports_of_same : (s t : Tree) → Same s t → (graph s).ports ≡ (graph t).ports
+ports_of_same s t e = sym (pairs_of s t e).2.ports
+
+pub masks_of_same : (s t : Tree) (masks : List ℕ) → Same s t → AreMasks s masks → AreMasks t masks
+masks_of_same s t masks e a = record {
+  many = a.many ∙ ap (λ (p : Ports). length p.outputs) (ports_of_same s t e);
+  each = λ output mask q k. (
+    λ b. depends_of_same s t e output k ((a.each output mask q k).0 b),
+    λ d. (a.each output mask q k).1 (depends_of_same t s (same-sym s t e) output k d),
+  );
+}
+
+pub loops_alike : (s t : Tree) → Same s t → HasCombLoop s ↔ HasCombLoop t
+loops_alike s t e = (loop_of_same s t e, loop_of_same t s (same-sym s t e))
+
+pub depends_alike : (s t : Tree) → Same s t → (output input : ℕ) → DependsOn s output input ↔ DependsOn t output input
+depends_alike s t e out k = (depends_of_same s t e out k, depends_of_same t s (same-sym s t e) out k)
+
+pub have_partners : HavePartners
+have_partners = record {
+  graphs = pairs_of;
+  kids = same_kid;
+  trees = same_at;
+  first_path = partners_reached;
+  second_path = partner_reached;
+  connections = connection_by;
+  row = twin_node;
+  twin_reached = twin_is_reached;
+  operand = twin_reached;
+  step = twin_needs;
+  walk = twin_leads;
+}

@@ -27,3 +27,5 @@ pub mod Steps
 pub mod Tops
 pub mod Again
 pub mod Ends
+pub mod HierSteps
+pub mod EndSteps

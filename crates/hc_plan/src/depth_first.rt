@@ -32,7 +32,7 @@ use std::alloc::Global;
 pub(crate) const MOST_LEVELS: usize = 64;
 
 /// The circuit of a call.
-fn circuit_of<'a>(design: &'a Design, call: &Call) -> &'a CircuitText
+pub(crate) fn circuit_of<'a>(design: &'a Design, call: &Call) -> &'a CircuitText
     requires { IsCall design.now call.now }
     ensures { IsCallOf design.now call.now result.now }
 {

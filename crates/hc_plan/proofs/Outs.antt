@@ -52,17 +52,17 @@ done_many outs (k ∷ ks) xs all = by (outcome_in (slice_get outs k)) (all_done 
 
 module _ {Z : Type 0} where
   -- the entries and the paths of one more row that is finished
-  pub kid_added : (outs : List Outcome) (kids : List ℕ) (i k : ℕ) (old new : Vec EntryId Z × Vec Paths Z) (out : EntryId × Paths) (p : Paths) → i < length kids → k ≡ get_or kids i k → AreKidsOf (all_done outs (take i kids)) (Some old) → Some (out.0, out.1.masks.items) ≡ outcome_in (slice_get outs k)
-      → new.0.items ≡ old.0.items ++ out.0 ∷ [] → new.1.items ≡ old.1.items ++ p ∷ [] → p.masks.items ≡ out.1.masks.items → AreKidsOf (all_done outs (take (i + 1) kids)) (Some new)
+  pub kid_added : (outs : List Outcome) (kids : List ℕ) (i k : ℕ) (old new : Vec EntryId Z × Vec Paths Z) (out : EntryId × Paths) (p : Paths) → i < length kids → k ≡ get_or kids i k → AreKidsOf (all_done outs (take i kids)) (Some old) → Some (out.0, out.1.masks) ≡ outcome_in (slice_get outs k)
+      → new.0.items ≡ old.0.items ++ out.0 ∷ [] → new.1.items ≡ old.1.items ++ p ∷ [] → p.masks ≡ out.1.masks → AreKidsOf (all_done outs (take (i + 1) kids)) (Some new)
   kid_added outs kids i k old new out p l e are own ids ps same =
       subst (λ ks. AreKidsOf (all_done outs ks) (Some new)) (sym (take_more kids i k l ∙ ap (λ y. take i kids ++ y ∷ []) (sym e))) (by (all_done outs (take i kids)) refl are)
     where
       by : (o : Option (List Done)) → all_done outs (take i kids) ≡ o → AreKidsOf o (Some old) → AreKidsOf (all_done outs (take i kids ++ k ∷ [])) (Some new)
       by None q a = absurd a
       by (Some xs) q a =
-          subst (λ o. AreKidsOf o (Some new)) (sym (one_more outs (take i kids) xs k (out.0, out.1.masks.items) q (sym own))) (
-            ids ∙ ap (λ l. l ++ out.0 ∷ []) a.0 ∙ sym (map-append (λ (x : Done). x.0) xs ((out.0, out.1.masks.items) ∷ [])),
-            ap paths.masks_of ps ∙ map-append (λ (x : Paths). x.masks.items) old.1.items (p ∷ []) ∙ ap (λ l. l ++ p.masks.items ∷ []) a.1 ∙ ap (λ m. masks_of xs ++ m ∷ []) same ∙ sym (map-append (λ (x : Done). x.1) xs ((out.0, out.1.masks.items) ∷ [])),
+          subst (λ o. AreKidsOf o (Some new)) (sym (one_more outs (take i kids) xs k (out.0, out.1.masks) q (sym own))) (
+            ids ∙ ap (λ l. l ++ out.0 ∷ []) a.0 ∙ sym (map-append (λ (x : Done). x.0) xs ((out.0, out.1.masks) ∷ [])),
+            ap paths.masks_of ps ∙ map-append (λ (x : Paths). x.masks) old.1.items (p ∷ []) ∙ ap (λ l. l ++ p.masks ∷ []) a.1 ∙ ap (λ m. masks_of xs ++ m ∷ []) same ∙ sym (map-append (λ (x : Done). x.1) xs ((out.0, out.1.masks) ∷ [])),
           )
 
 -- not all are there where one row is not finished

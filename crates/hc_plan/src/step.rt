@@ -10,7 +10,7 @@ ghost use Rattle.hc_plan.specs.declared.step.Step.TheVariants as is;
 
 use crate::kinds::PlanRow;
 use hc_canon::{EntryId, Form, canon};
-use hc_fault::NoMemory;
+use hc_fault::{ItemList, NoMemory};
 use hc_paths::kinds::{PathStop, Paths};
 use hc_paths::make::paths;
 use std::alloc::Global;
@@ -25,10 +25,12 @@ pub enum Step {
 
 /// A copy of paths.
 fn copy_of(alloc: Global, own: &Paths) -> Result<Paths, NoMemory>
-    ensures { IfOk result (λ p. p.masks.items ≡ own.now.masks.items) }
+    ensures { IfOk result (λ p. p.masks ≡ own.now.masks) }
 {
     let masks = Vec::from_slice(alloc, own.masks.as_slice())?;
-    Ok(Paths { masks })
+    Ok(Paths {
+        masks: ItemList::from_vec(masks),
+    })
 }
 
 /// What became of the row at a place, where it is finished.
@@ -69,7 +71,7 @@ pub fn form_of(
 ) -> Result<Step, NoMemory>
     requires checked { IsChecked row.now.body.circuit }
     requires many { length row.now.kids ≡ length row.now.body.circuit.instances }
-    ensures ready { IfOk result (λ s. (form : FormView) (p : spec_paths.Paths) → s ≡ is.Ready form p → IsReady (outs_of outs.now) row.now form p.masks.items) }
+    ensures ready { IfOk result (λ s. (form : FormView) (p : spec_paths.Paths) → s ≡ is.Ready form p → IsReady (outs_of outs.now) row.now form p.masks) }
     ensures looped { IfOk result (λ s. s ≡ is.Looped → IsLooped (outs_of outs.now) row.now) }
     ensures passed { IfOk result (λ s. s ≡ is.PassedOver → all_done (outs_of outs.now) row.now.kids ≡ None) }
 {

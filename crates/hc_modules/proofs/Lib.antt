@@ -1,4 +1,3 @@
-pub mod Marks
 pub mod Texts
 pub mod Called
 pub mod SamePaths

@@ -29,3 +29,4 @@ pub mod Again
 pub mod Ends
 pub mod HierSteps
 pub mod EndSteps
+pub mod Outs

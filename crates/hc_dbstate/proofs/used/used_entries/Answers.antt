@@ -1,8 +1,8 @@
 use Rattle.std.proofs.Common.{ℕ, ◌-◌, false, List, replicate, refl, sym, ap, subst, ◌∙◌, arith}
 use Rattle.std.specs.Prelude.{Bool}
-use Rattle.hc_modules.specs.Uses.{IsMarked, with_mark, with_marks}
-use Rattle.hc_modules.proofs.Marks.{AreUsesAbove, starts, takes, ends}
-use Rattle.hc_modules.proofs.used.used_entries.Goals as goal
+use Rattle.hc_dbstate.specs.Uses.{IsMarked, with_mark, with_marks}
+use Rattle.hc_dbstate.proofs.Marks.{AreUsesAbove, starts, takes, ends}
+use Rattle.hc_dbstate.proofs.used.used_entries.Goals as goal
 
 pub loop-place-init : goal.loop-place-init
 loop-place-init c =

@@ -1,6 +1,6 @@
 use Rattle.std.proofs.lemmas.Result.{IfOk-weaker, MatchResult-weaker}
 use Rattle.hc_paths.proofs.Orders.{roots_right, order_local, order_free, cycle_local}
-use Rattle.hc_paths.proofs.local.local_order.Goals as goal
+use Rattle.hc_paths.proofs.local.order_backwards.Goals as goal
 
 pub order-requires : goal.order-requires
 order-requires c = roots_right _ _ c.lawful.ensures _ _ c.as_slice.ensures.value c.in_ok-roots.ensures

@@ -1,6 +1,6 @@
 use Rattle.std.proofs.Common.{◌≡◌, drop, length}
-use Rattle.hc_modules.specs.Uses.{with_marks}
-use Rattle.hc_modules.proofs.used.mark_all.Given as goal
+use Rattle.hc_dbstate.specs.Uses.{with_marks}
+use Rattle.hc_dbstate.proofs.used.mark_all.Given as goal
 
 abbrev pub invariant-ids : goal.invariant-ids
 invariant-ids l = record {

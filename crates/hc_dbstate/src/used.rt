@@ -1,11 +1,11 @@
 //! The entries that an entry uses.
 ghost use Rattle.std.specs.Prelude.{◌≡◌, ◌↔◌, ◌<◌, length, replicate, IfOk, true, false};
 ghost use Rattle.hc_canon.specs.declared.form.EntryId.{EntryId};
-ghost use Rattle.hc_modules.specs.Uses.{AreUses, IsMarked, with_mark, with_marks};
+ghost use Rattle.hc_dbstate.specs.Uses.{AreUses, IsMarked, with_mark, with_marks};
 ghost use Rattle.hc_signal.specs.Member.{Has};
 
+use crate::database::DbState;
 use hc_canon::EntryId;
-use hc_dbstate::DbState;
 use hc_fault::NoMemory;
 use std::alloc::Global;
 
@@ -35,7 +35,7 @@ fn mark_all(marks: &mut Vec<bool>, ids: &[EntryId])
 }
 
 /// Whether an entry is marked.
-pub(crate) fn is_marked(marks: &[bool], id: EntryId) -> bool
+pub fn is_marked(marks: &[bool], id: EntryId) -> bool
     ensures { (result ≡ true) ↔ IsMarked marks.now id }
 {
     match marks.get(id.0) {

@@ -6,7 +6,7 @@ use Rattle.std.proofs.lemmas.Bool.Decides.{eqb_tells}
 use Rattle.hc_signal.specs.Member.{Has, first, later}
 use Rattle.hc_canon.specs.declared.form.EntryId.{EntryId}
 use Rattle.hc_canon.specs.FormView.{FormView}
-use Rattle.hc_modules.specs.Uses.{Uses, itself, kid, IsMarked, AreUses, with_mark, with_marks}
+use Rattle.hc_dbstate.specs.Uses.{Uses, itself, kid, IsMarked, AreUses, with_mark, with_marks}
 
 -- ---- one list of marks
 

@@ -38,14 +38,14 @@ outs_append [] ys = refl
 outs_append (x ∷ xs) ys = ap (λ l. outcome_of x ∷ l) (outs_append xs ys)
 
 dones_append : (xs ys : List (EntryId × Paths)) → dones_of (xs ++ ys) ≡ dones_of xs ++ dones_of ys
-dones_append xs ys = map-append (λ (x : EntryId × Paths). (x.0, x.1.masks.items)) xs ys
+dones_append xs ys = map-append (λ (x : EntryId × Paths). (x.0, x.1.masks)) xs ys
 
 -- one more is finished
 pub one_done_more : (outs : List Out) (old new : List (EntryId × Paths)) (out : Out) (x : EntryId × Paths) → out ≡ Some x → outs_of outs ≡ all_of (dones_of old) → new ≡ old ++ x ∷ [] → outs_of (outs ++ out ∷ []) ≡ all_of (dones_of new)
 one_done_more outs old new out x this before is =
     ap (λ (o : Out). outs_of (outs ++ o ∷ [])) this
     ∙ outs_append outs (Some x ∷ [])
-    ∙ ap (λ l. l ++ Some (x.0, x.1.masks.items) ∷ []) before
+    ∙ ap (λ l. l ++ Some (x.0, x.1.masks) ∷ []) before
     ∙ sym (ap (λ l. all_of (dones_of l)) is ∙ ap all_of (dones_append old (x ∷ [])) ∙ map-append (λ (y : Done). Some y) (dones_of old) (dones_of (x ∷ [])))
 
 -- the element at a place
@@ -74,7 +74,7 @@ here_after (y ∷ xs) x more = here_after xs x more
 pub open_after : (outs all : List Out) (done now : List (EntryId × Paths)) (out : Out) (left more : List Out) → out ≡ None → now ≡ done → outs_of outs ≡ all_of (dones_of done) → left ≡ out ∷ more → outs ++ left ≡ all → (slice_get (outs_of all) (length now) ≡ Some None) × AreFinishedBelow (outs_of all) (length now)
 open_after outs all done now out left more this same before next is =
     let split : outs_of all ≡ all_of (dones_of done) ++ None ∷ outs_of more = ap outs_of (sym is) ∙ outs_append outs left ∙ ap (λ l. outs_of outs ++ outs_of l) (next ∙ ap (λ (o : Out). o ∷ more) this) ∙ ap (λ l. l ++ None ∷ outs_of more) before in
-    let here : length (dones_of done) ≡ length now = length-map done (λ (x : EntryId × Paths). (x.0, x.1.masks.items)) ∙ ap length (sym same) in
+    let here : length (dones_of done) ≡ length now = length-map done (λ (x : EntryId × Paths). (x.0, x.1.masks)) ∙ ap length (sym same) in
     let many : length (all_of (dones_of done)) ≡ length now = length-map (dones_of done) (λ (y : Done). Some y) ∙ here in (
       ap (λ l. slice_get l (length now)) split ∙ ap (slice_get (all_of (dones_of done) ++ None ∷ outs_of more)) (sym many) ∙ here_after (all_of (dones_of done)) None (outs_of more),
       subst (λ l. AreFinishedBelow l (length now)) (sym split) (subst (AreFinishedBelow (all_of (dones_of done) ++ None ∷ outs_of more)) here (below_more_outs (dones_of done) (None ∷ outs_of more))),
@@ -85,12 +85,12 @@ open_after outs all done now out left more this same before next is =
 module _ (rows : List PlanRow) (outs : List Out) (done : List (EntryId × Paths)) (outcomes : AreOutcomes any_form rows (outs_of outs)) (is : outs_of outs ≡ all_of (dones_of done)) where
   -- as many as rows
   pub dones_many : length done ≡ length rows
-  dones_many = sym (ap length is ∙ length-map (dones_of done) (λ (y : Done). Some y) ∙ length-map done (λ (x : EntryId × Paths). (x.0, x.1.masks.items))) ∙ outcomes.many
+  dones_many = sym (ap length is ∙ length-map (dones_of done) (λ (y : Done). Some y) ∙ length-map done (λ (x : EntryId × Paths). (x.0, x.1.masks))) ∙ outcomes.many
 
   -- all are finished
   pub all_finished : AreFinishedBelow (outs_of outs) (length rows)
   all_finished =
-      subst (AreFinishedBelow (outs_of outs)) (length-map done (λ (x : EntryId × Paths). (x.0, x.1.masks.items)) ∙ dones_many)
+      subst (AreFinishedBelow (outs_of outs)) (length-map done (λ (x : EntryId × Paths). (x.0, x.1.masks)) ∙ dones_many)
       (subst (λ l. AreFinishedBelow l (length (dones_of done))) (sym is) (finished_below (dones_of done)))
 
 -- the hierarchy is that of the last row
@@ -100,7 +100,7 @@ concluded d plan outs done now (Err e) outcomes is same whole at = tt
 concluded d plan outs done now (Ok h) outcomes is same whole at = record {
   whole = whole;
   done = dones_of now;
-  many = length-map now (λ (x : EntryId × Paths). (x.0, x.1.masks.items)) ∙ dones_many plan.rows outs now outcomes these;
+  many = length-map now (λ (x : EntryId × Paths). (x.0, x.1.masks)) ∙ dones_many plan.rows outs now outcomes these;
   same = λ j x e. ap (λ l. slice_get l j) these ∙ same_at (dones_of now) j x e;
   all = all_finished plan.rows outs now outcomes these;
   at = at;

@@ -37,7 +37,7 @@ level_over x =
     ap (λ (n : ℕ). let v : HierView = record { own = row_level x; calls = (hier_level x).calls; levels = suc n } in v) same
 
 -- a hierarchy is over those of its children
-pub made_over : (x : Hier-F Hier) → hier_view (roll-Hier x) ≡ view_over (record { name = x.name; entry = x.entry; masks = x.paths.masks.items; instances = x.instances; weight = x.weight; words = x.words }) (map hier_view x.kids)
+pub made_over : (x : Hier-F Hier) → hier_view (roll-Hier x) ≡ view_over (record { name = x.name; entry = x.entry; masks = x.paths.masks; instances = x.instances; weight = x.weight; words = x.words }) (map hier_view x.kids)
 made_over x = fold-roll-Hier HierView hier_level x ∙ level_over (map-Hier Hier HierView hier_view x)
 
 -- ---- the hierarchies of some rows
@@ -104,12 +104,12 @@ some_row d rows stop plan e =
 
 -- the hierarchy of a row with what is done of it, over those of its children
 pub hier_of_row : {E : Type 0} (d : Design) (rows seen : List PlanRow) (done : List (EntryId × Paths)) (k : ℕ) (row : PlanRow) (c : CircuitText) (own : EntryId × Paths) (ks : List ℕ) (kids : List Hier) (r : Result Hier E) → seen ≡ rows → length done ≡ length rows → k < length rows → row ≡ get_or seen k row → own ≡ get_or done k own → IsCallOf d row.call c → ks ≡ row.kids
-    → AreHiersAt d rows (dones_of done) ks (map hier_view kids) → IfOk r (λ h. hier_view h ≡ view_over (row_of_call c row (own.0, own.1.masks.items)) (map hier_view kids)) → IfOk r (λ h. IsHierAt d rows (dones_of done) k (hier_view h))
+    → AreHiersAt d rows (dones_of done) ks (map hier_view kids) → IfOk r (λ h. hier_view h ≡ view_over (row_of_call c row (own.0, own.1.masks)) (map hier_view kids)) → IfOk r (λ h. IsHierAt d rows (dones_of done) k (hier_view h))
 hier_of_row d rows seen done k row c own ks kids (Err e) same many l at there of these below is = tt
 hier_of_row d rows seen done k row c own ks kids (Ok h) same many l at there of these below is =
     let mine : slice_get done k ≡ Some own = slice_get_read done (length done) k own refl (omega (arith, many, l)) there in
     subst (IsHierAt d rows (dones_of done) k) (sym is)
-    (of_row row c (own.0, own.1.masks.items) (read_at rows seen k row same l at) (slice_get-map (λ (x : EntryId × Paths). (x.0, x.1.masks.items)) done k ∙ ap (option_map (λ (x : EntryId × Paths). (x.0, x.1.masks.items))) mine) of
+    (of_row row c (own.0, own.1.masks) (read_at rows seen k row same l at) (slice_get-map (λ (x : EntryId × Paths). (x.0, x.1.masks)) done k ∙ ap (option_map (λ (x : EntryId × Paths). (x.0, x.1.masks))) mine) of
     (subst (λ js. AreHiersAt d rows (dones_of done) js (map hier_view kids)) these below))
 
 -- the last row

@@ -8,8 +8,8 @@ use Rattle.hc_paths.specs.declared.kinds.Paths.{Paths}
 use Rattle.hc_plan.specs.Finishing.{Outcome}
 use Rattle.hc_plan.specs.Hierarchies.{Done, IsHierAt}
 use Rattle.hc_plan.specs.Stepping.{dones_of, outs_of}
-use Rattle.hc_plan.specs.declared.conclude.End.{End}
-use Rattle.hc_plan.specs.declared.conclude.End.TheVariants.{Finished, OpenAt}
+use Rattle.hc_plan.specs.declared.ending.End.{End}
+use Rattle.hc_plan.specs.declared.ending.End.TheVariants.{Finished, OpenAt}
 use Rattle.hc_plan.specs.declared.kinds.Plan.{Plan}
 
 -- the rows below a place are finished

@@ -8,6 +8,7 @@ ghost use Rattle.hc_signal.specs.Member.{Has};
 
 use crate::depth_first::circuit_of;
 use crate::kinds::{Plan, PlanRow};
+use crate::step::copy_of;
 use hc_canon::EntryId;
 use hc_dbstate::Hier;
 use hc_fault::{ItemList, Name, NoMemory};
@@ -15,17 +16,9 @@ use hc_lang::{CircuitText, Design};
 use hc_paths::kinds::Paths;
 use std::alloc::Global;
 
-/// A copy of the paths of a row.
-fn copy_of(alloc: Global, paths: &Paths) -> Result<Paths, NoMemory>
-    ensures { IfOk result (λ copy. copy.masks.items ≡ paths.now.masks.items) }
-{
-    let masks = Vec::from_slice(alloc, paths.masks.as_slice())?;
-    Ok(Paths { masks })
-}
-
 /// A hierarchy with the sums of a row, over those of its children.
 fn hier(name: Name, entry: EntryId, paths: Paths, row: &PlanRow, kids: ItemList<Hier>) -> Hier
-    ensures { let own : CallRow = record { name = name; entry = entry; masks = paths.masks.items; instances = row.now.instances; weight = row.now.weight; words = row.now.words } in hier_view result ≡ view_over own (map hier_view kids) }
+    ensures { let own : CallRow = record { name = name; entry = entry; masks = paths.masks; instances = row.now.instances; weight = row.now.weight; words = row.now.words } in hier_view result ≡ view_over own (map hier_view kids) }
 {
     Hier {
         name,
@@ -47,7 +40,7 @@ fn hier_over(
     paths: &Paths,
     kids: ItemList<Hier>,
 ) -> Result<Hier, NoMemory>
-    ensures { IfOk result (λ h. hier_view h ≡ view_over (row_of_call circuit.now row.now (entry, paths.now.masks.items)) (map hier_view kids)) }
+    ensures { IfOk result (λ h. hier_view h ≡ view_over (row_of_call circuit.now row.now (entry, paths.now.masks)) (map hier_view kids)) }
 {
     let name = Name::new(alloc, circuit.name.bytes())?;
     let paths = copy_of(alloc, paths)?;

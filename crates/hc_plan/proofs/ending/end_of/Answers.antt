@@ -4,7 +4,7 @@ use Rattle.std.specs.Vec.Iter.{into_iter_items}
 use Rattle.hc_plan.specs.Stepping.{outs_of}
 use Rattle.hc_plan.specs.Concluded.{AreFinishedBelow}
 use Rattle.hc_plan.proofs.EndSteps.{Out, all_of, one_done_more, open_after}
-use Rattle.hc_plan.proofs.conclude.end_of.Goals as goal
+use Rattle.hc_plan.proofs.ending.end_of.Goals as goal
 
 pub outs-preserved : goal.outs-preserved
 outs-preserved c =

@@ -32,10 +32,7 @@ enum End {
 }
 
 /// Adds what is done of a row at the end.
-fn add(
-    done: &mut ItemList<(EntryId, Paths)>,
-    row: (EntryId, Paths),
-) -> Result<(), NoMemory>
+fn add(done: &mut ItemList<(EntryId, Paths)>, row: (EntryId, Paths)) -> Result<(), NoMemory>
     ensures { OnOk result (done.new ≡ done.old ++ row ∷ []) }
 {
     match done.push(row) {

@@ -1,9 +1,6 @@
-use Rattle.std.proofs.Common.{◌≡◌, List, [], ◌∷◌, ◌++◌, ap, sym, subst, ◌∙◌, append_assoc, length}
-use Rattle.std.specs.Prelude.{Some, None, Option, slice_get}
+use Rattle.std.proofs.Common.{◌≡◌, [], ◌∷◌, ◌∙◌, append_assoc}
 use Rattle.std.specs.Vec.Iter.{into_iter_items}
-use Rattle.hc_plan.specs.Stepping.{outs_of}
-use Rattle.hc_plan.specs.Concluded.{AreFinishedBelow}
-use Rattle.hc_plan.proofs.EndSteps.{Out, all_of, one_done_more, open_after}
+use Rattle.hc_plan.proofs.EndSteps.{one_done_more, open_after}
 use Rattle.hc_plan.proofs.ending.end_of.Goals as goal
 
 pub outs-preserved : goal.outs-preserved

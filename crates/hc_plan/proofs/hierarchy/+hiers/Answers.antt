@@ -1,4 +1,4 @@
-use Rattle.std.proofs.Common.{rules, arith, subst, sym, ◌<◌, get_or}
+use Rattle.std.proofs.Common.{rules, arith, subst, ◌<◌, get_or}
 use Rattle.hc_signal.specs.Member.{Has}
 use Rattle.hc_plan.proofs.HierSteps.{hier_of_row, kid_lower, kids_lower, no_hiers, one_hier_more, read_at, row_called}
 use Rattle.hc_plan.proofs.hierarchy.+hiers.Goals as goal
@@ -8,17 +8,14 @@ hier_at-circuit_of-circuit-requires t c =
     row_called _ _ _ c.requires.plan c.args.place _ (read_at _ _ _ _ c.as_slice.ensures c.requires.place c.index-as_slice-place.is)
 
 pub hier_at-hiers_at-requires : goal.hier_at-hiers_at-requires
-hier_at-hiers_at-requires t c = (
-  search rules,
-  (
-    c.requires.plan,
-    (c.requires.many, (c.requires.place, λ k m. kids_lower _ _ _ c.requires.plan c.args.place _ (read_at _ _ _ _ c.as_slice.ensures c.requires.place c.index-as_slice-place.is) k (subst (λ ks. Has ks k) c.as_slice-2.ensures m))),
-  ),
-)
+hier_at-hiers_at-requires t c =
+    let lower = kids_lower _ _ _ c.requires.plan c.args.place _ (read_at _ _ _ _ c.as_slice.ensures c.requires.place c.index-as_slice-place.is) in
+    (search rules, (c.requires.plan, (c.requires.many, (c.requires.place, λ k m. lower k (subst (λ ks. Has ks k) c.as_slice-2.ensures m)))))
 
 pub hier_at-returns : goal.hier_at-returns
 hier_at-returns t c =
-    hier_of_row _ _ _ _ _ _ _ _ _ _ _ c.as_slice.ensures c.requires.many c.requires.place c.index-as_slice-place.is c.index-done-place.is c.circuit_of-circuit.ensures c.as_slice-2.ensures c.in_ok-kids.ensures c.hier_over.ensures
+    hier_of_row _ _ _ _ _ _ _ _ _ _ _ c.as_slice.ensures c.requires.many c.requires.place c.index-as_slice-place.is
+    c.index-done-place.is c.circuit_of-circuit.ensures c.as_slice-2.ensures c.in_ok-kids.ensures c.hier_over.ensures
 
 pub hiers_at-kids-init : goal.hiers_at-kids-init
 hiers_at-kids-init t c = no_hiers _ _ _ _ c.in_ok-hiers.ensures
@@ -29,4 +26,5 @@ hiers_at-hier_at-requires t c =
     (omega (arith, low, c.decreases), (c.requires.plan, (c.requires.many, omega (arith, low, c.requires.place))))
 
 pub hiers_at-kids-preserved : goal.hiers_at-kids-preserved
-hiers_at-kids-preserved t c = one_hier_more _ _ _ _ _ _ _ _ c.kids-test.true c.kids.invariant c.in_ok-hier.ensures c.in_ok-add.ensures
+hiers_at-kids-preserved t c =
+    one_hier_more _ _ _ _ _ _ _ _ c.kids-test.true c.kids.invariant c.in_ok-hier.ensures c.in_ok-add.ensures

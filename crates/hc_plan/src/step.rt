@@ -24,7 +24,7 @@ pub enum Step {
 }
 
 /// A copy of paths.
-fn copy_of(alloc: Global, own: &Paths) -> Result<Paths, NoMemory>
+pub(crate) fn copy_of(alloc: Global, own: &Paths) -> Result<Paths, NoMemory>
     ensures { IfOk result (λ p. p.masks ≡ own.now.masks) }
 {
     let masks = Vec::from_slice(alloc, own.masks.as_slice())?;

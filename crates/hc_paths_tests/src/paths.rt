@@ -44,7 +44,7 @@ fn masks(
 ) -> Result<Option<Vec<u128>>, Fail> {
     assert!(rt; circuit.ports().inputs.as_slice().len() <= 128);
     match paths(alloc, circuit, kids) {
-        Ok(found) => Ok(Some(found.masks)),
+        Ok(found) => Ok(Some(found.masks.into_vec())),
         Err(PathStop::Loop) => Ok(None),
         Err(PathStop::NoMemory) => Err(PathStop::NoMemory.into()),
     }

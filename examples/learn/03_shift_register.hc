@@ -7,11 +7,13 @@ input bit 1
 output q n
 output out 1
 wire bits_next n
-reg state bits_next enable or(load,shift) init 1
+reg state bits_next enable or(load,shift) init 1    # it starts at 1
+# mux2(s,a,b) is a where s is 1; cat puts its first part highest; select takes bits n-2 down to 0
 assign bits_next mux2(load,data,cat(select(state,n-2,0),bit))
 assign q state
-assign out msb(state)
+assign out msb(state)                               # the highest bit
 top shift_register 8
+
 bench
 cycle
 set shift 1

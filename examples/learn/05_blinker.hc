@@ -1,4 +1,5 @@
-# Three lamps that blink at different speeds: one counter circuit at three widths.
+# Three lamps that blink at different speeds: one counter circuit at two widths. The Verilog has one module for each
+# different circuit, so the two equal lamps share theirs.
 circuit counter n
 input enable 1
 output wraps 1
@@ -29,3 +30,8 @@ assign red r.lit
 assign green g.lit
 assign blue b.lit
 top blinker
+
+bench
+set tick 1
+cycle 18
+end

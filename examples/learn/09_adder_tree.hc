@@ -1,4 +1,5 @@
-# The sum of count words, by a tree of adders: each level has half as many, and a bit more.
+# The sum of count words, by a tree of adders: each level has half as many, and a bit more. The words come side by side in one
+# input, since the number of ports of a circuit is fixed.
 circuit adder_tree count width
 input words count*width
 output sum width+bits(count-1)
@@ -10,6 +11,7 @@ else
   assign sum add(uresize(low.sum,width+bits(count-1)),uresize(high.sum,width+bits(count-1)))
 end
 top adder_tree 5 4
+
 bench
 set words 20'h12345
 cycle

@@ -7,11 +7,13 @@ input b n
 output result n
 output zero 1
 output carry 1
+# One bit more than the operands, so that the carry is there: uresize fills with zeros.
 let sum add(uresize(a,n+1),uresize(b,n+1))
 let difference sub(uresize(a,n+1),uresize(b,n+1))
+# A multiplexer: the selector, and a case for each of its numbers. All cases have one width.
 let wide mux(operation,sum,difference,uresize(and(a,b),n+1),uresize(or(a,b),n+1),uresize(xor(a,b),n+1),uresize(lts(a,b),n+1),uresize(sll(a,1),n+1),uresize(b,n+1))
 assign result select(wide,n-1,0)
-assign zero eq(result,const(n,0))
+assign zero eq(result,const(n,0))       # an output may be read
 assign carry msb(wide)
 
 circuit accumulator n
@@ -22,6 +24,7 @@ output value n
 output zero 1
 output carry 1
 wire kept n
+# An instance: its name, its circuit, the circuit's numbers, and a signal for each input. unit.result is an output of it.
 inst unit alu n : operation=operation a=kept b=b
 reg value_now unit.result enable enable
 assign kept value_now
@@ -29,6 +32,7 @@ assign value value_now
 assign zero unit.zero
 assign carry unit.carry
 top accumulator 8
+
 bench
 set enable 1
 set operation 7

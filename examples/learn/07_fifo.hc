@@ -1,4 +1,5 @@
-# A first-in first-out queue of a power of two of words, with a count of the words in it.
+# A first-in first-out queue, with a count of the words in it. The depth is a power of two, so head and tail wrap by themselves
+# and no address is past the end of the memory.
 circuit fifo width depth
 input push 1
 input pop 1
@@ -12,6 +13,7 @@ wire head bits(depth-1)
 wire tail bits(depth-1)
 wire count bits(depth)
 
+# What is asked for and can be done.
 let takes and(pop,not(empty))
 let puts and(push,not(full))
 
@@ -29,6 +31,7 @@ assign q read(store,head)
 assign empty eq(count,const(bits(depth),0))
 assign full eq(count,const(bits(depth),depth))
 top fifo 8 16
+
 bench
 set push 1
 set data 8'h11

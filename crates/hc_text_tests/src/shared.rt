@@ -3,7 +3,7 @@ use hc_body::kinds::Body;
 use hc_fault::{Fault, Ident, ItemList, Name, Path};
 use hc_lang::{BenchLine, CircuitText, Design, Head, TopLine};
 use hc_lines::{BenchWhat, Stmt};
-use hc_sigtext::tree::Sig;
+use hc_sigtext::Sig;
 use hc_statements::kinds::{Call, Child};
 use hc_tokens::Num;
 use std::test::Fail;

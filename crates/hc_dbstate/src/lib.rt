@@ -5,6 +5,7 @@ mod database;
 mod hier;
 mod insert;
 mod laws;
+mod turn_laws;
 mod turns;
 
 pub use database::DbState;
@@ -13,4 +14,5 @@ pub use laws::{
     entries_grow_with_the_log, entries_unfold_once, logs_name_entries, logs_replay,
     made_forms_tell_trees_apart, unfoldings_are_of_kids,
 };
+pub use turn_laws::{entries_are_named, logs_have_the_turns, trees_have_one_entry};
 pub use turns::{Entered, Turn};

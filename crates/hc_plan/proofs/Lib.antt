@@ -27,3 +27,4 @@ pub mod Steps
 pub mod Tops
 pub mod Again
 pub mod Ends
+pub mod Called

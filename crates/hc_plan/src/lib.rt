@@ -1,6 +1,7 @@
 //! The distinct calls of a design, each with its body, or the first fault that the tree of calls shows.
 #![tactic(auto)]
 
+mod called_laws;
 mod conclude;
 mod deep;
 mod depth_first;
@@ -12,6 +13,7 @@ mod rows;
 mod step;
 mod sums;
 
+pub use called_laws::{calls_stand_for_calls, entries_are_called};
 pub use conclude::conclude;
 pub use depth_first::plan;
 pub use hierarchy::hier_of;

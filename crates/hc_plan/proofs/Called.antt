@@ -1,5 +1,5 @@
 -- Entries whose turns are those of distinct calls are entries of calls.
-use Rattle.std.proofs.Common.{◌≡◌, ◌<◌, List, [], ◌∷◌, length, map, subst, IsPermutation, All}
+use Rattle.std.proofs.Common.{◌≡◌, ◌<◌, ℕ, zero, suc, List, [], ◌∷◌, length, map, get_or, arith, IsPermutation, All}
 use Rattle.std.proofs.lemmas.List.Sorted.{All-permutation, IsPermutation-sym}
 use Rattle.std.proofs.lemmas.Option.{slice_get_within}
 use Rattle.hc_signal.specs.Member.{Has, first, later}
@@ -27,15 +27,16 @@ firsts_among (anew m rest) y (later h) = later (firsts_among rest y h)
 
 has_of_all : {X : Type 0} (P : X → Type 0) (xs : List X) → All P xs → (x : X) → Has xs x → P x
 has_of_all P [] all x h = elim h [ ]
-has_of_all P (y ∷ xs) all x first = all.0
-has_of_all P (y ∷ xs) all x (later h) = has_of_all P xs all.1 x h
+has_of_all P (y ∷ xs) all x first = all zero y (omega arith)
+has_of_all P (y ∷ xs) all x (later h) = has_of_all P xs (λ k d lt. all (suc k) d (omega (arith, lt))) x h
 
-all_of_has : {X : Type 0} (P : X → Type 0) (xs : List X) → ((x : X) → Has xs x → P x) → All P xs
-all_of_has P [] each = tt
-all_of_has P (x ∷ xs) each = (each x first, all_of_has P xs (λ y h. each y (later h)))
+has_at : {X : Type 0} (xs : List X) (k : ℕ) (d : X) → k < length xs → Has xs (get_or xs k d)
+has_at [] k d lt = absurd (omega (arith, lt))
+has_at (x ∷ xs) zero d lt = first
+has_at (x ∷ xs) (suc k) d lt = later (has_at xs k d (omega (arith, lt)))
 
 has_shuffled : {X : Type 0} (xs ys : List X) → IsPermutation xs ys → (x : X) → Has xs x → Has ys x
-has_shuffled xs ys shuffled = has_of_all (Has ys) xs (All-permutation (Has ys) ys xs (IsPermutation-sym xs ys shuffled) (all_of_has (Has ys) ys (λ x h. h)))
+has_shuffled xs ys shuffled = has_of_all (Has ys) xs (All-permutation (Has ys) ys xs (IsPermutation-sym xs ys shuffled) (has_at ys))
 
 -- ---- entries and calls
 

@@ -2,7 +2,7 @@
 #![tactic(auto)]
 
 mod called_laws;
-mod conclude;
+mod ending;
 mod deep;
 mod depth_first;
 mod hierarchy;
@@ -14,7 +14,7 @@ mod step;
 mod sums;
 
 pub use called_laws::{calls_stand_for_calls, entries_are_called};
-pub use conclude::conclude;
+pub use ending::conclude;
 pub use depth_first::plan;
 pub use hierarchy::hier_of;
 pub use laws::{

@@ -1,19 +1,13 @@
 //! Laws of the turns of legal histories, and of the entries that they name.
-ghost use Rattle.std.specs.Prelude.{◌≡◌, ◌<◌, List, length, map};
+ghost use Rattle.std.specs.Prelude.{◌≡◌, ◌<◌, length, map};
 ghost use Rattle.hc_canon.specs.declared.form.EntryId.{EntryId};
 ghost use Rattle.hc_dbstate.specs.declared.turns.Entered.{Entered};
 ghost use Rattle.hc_dbstate.specs.declared.turns.Turn.{Turn};
 ghost use Rattle.hc_dbstate.specs.History.{History, IsLegal, log};
 ghost use Rattle.hc_dbstate.specs.Unfolding.{Denotes};
-ghost use Rattle.hc_signal.specs.Member.{Has};
 ghost use Rattle.hc_signal.specs.Tree.{Tree};
 
 use hc_canon::same_is_an_equivalence;
-
-/// Each entry of a legal history is named by a turn.
-pub fn entries_are_named()
-    ensures { (h : History) (id : EntryId) → IsLegal h → id.0 < length h.entries → Has (map (λ (t : Turn). t.entry) h.turns) id }
-{}
 
 /// The log of a legal history names the entries that its turns name, in order.
 pub fn logs_have_the_turns()

@@ -1,5 +1,5 @@
 -- Entries whose turns are those of distinct calls are entries of calls.
-use Rattle.std.proofs.Common.{◌≡◌, ◌<◌, ℕ, zero, suc, List, [], ◌∷◌, length, map, get_or, arith, IsPermutation, All}
+use Rattle.std.proofs.Common.{◌≡◌, ◌<◌, ◌∙◌, ℕ, zero, suc, true, List, [], ◌∷◌, length, map, get_or, arith, IsPermutation, All}
 use Rattle.std.proofs.lemmas.List.Sorted.{All-permutation, IsPermutation-sym}
 use Rattle.std.proofs.lemmas.Option.{slice_get_within}
 use Rattle.hc_signal.specs.Member.{Has, first, later}
@@ -40,12 +40,12 @@ has_shuffled xs ys shuffled = has_of_all (Has ys) xs (All-permutation (Has ys) y
 
 -- ---- entries and calls
 
--- an entry of calls denotes the tree of one
-call_of_entry : (entries : List FormView) (ids : List EntryId) (cs : List ElaboratedCall) → AreEntriesOf entries ids cs → (id : EntryId) → Has ids id → (c : ElaboratedCall) × Has cs c × IsEntryOf entries id c.tree
-call_of_entry entries [] cs are id h = elim h [ ]
-call_of_entry entries (i ∷ ids) [] are id h = absurd are
-call_of_entry entries (i ∷ ids) (c ∷ cs) are id first = (c, first, are.0)
-call_of_entry entries (i ∷ ids) (c ∷ cs) are id (later h) = let d = call_of_entry entries ids cs are.1 id h in (d.0, later d.1, d.2)
+-- the entry of a turn denotes the tree of a call
+call_of_turn : (entries : List FormView) (ts : List Turn) (cs : List ElaboratedCall) → AreEntriesOf entries (map (λ (t : Turn). t.entry) ts) cs → (t : Turn) → Has ts t → (c : ElaboratedCall) × Has cs c × IsEntryOf entries t.entry c.tree
+call_of_turn entries [] cs are t h = elim h [ ]
+call_of_turn entries (u ∷ ts) [] are t h = absurd are
+call_of_turn entries (u ∷ ts) (c ∷ cs) are t first = (c, first, are.0)
+call_of_turn entries (u ∷ ts) (c ∷ cs) are t (later h) = let d = call_of_turn entries ts cs are.1 t h in (d.0, later d.1, d.2)
 
 -- the elaborated call that a call of a hierarchy stands for
 pub call_of_view : (entries : List FormView) (cs : List CallView) (es : List ElaboratedCall) → AreCallsFor entries cs es → (c : CallView) → Has cs c → (e : ElaboratedCall) × Has es e × IsCallFor entries c e
@@ -63,7 +63,7 @@ view_of_call entries (c ∷ cs) (x ∷ es) are e first = (c, first, are.0)
 view_of_call entries (c ∷ cs) (x ∷ es) are e (later h) = let d = view_of_call entries cs es are.1 e h in (d.0, later d.1, d.2)
 
 abbrev AreNamed : Type 0
-AreNamed = (h : History) (id : EntryId) → IsLegal h → id.0 < length h.entries → Has (map (λ (t : Turn). t.entry) h.turns) id
+AreNamed = (h : History) (id : EntryId) → IsLegal h → id.0 < length h.entries → (t : Turn) × Has h.turns t × (t.fresh ≡ true) × (t.entry ≡ id)
 
 abbrev HaveOneEntry : Type 0
 HaveOneEntry = (h : History) (i j : EntryId) (t : Tree) → IsLegal h → i.0 < length h.entries → j.0 < length h.entries → Denotes h.entries i t → Denotes h.entries j t → i ≡ j
@@ -71,9 +71,10 @@ HaveOneEntry = (h : History) (i j : EntryId) (t : Tree) → IsLegal h → i.0 < 
 pub called : AreNamed → HaveOneEntry → (h : History) (hier : Hier) (e : Elaborated) (firsts order : List ElaboratedCall) → IsLegal h → IsHierarchyFor h.entries hier e → AreDistinct e.calls firsts → IsPermutation order firsts
     → AreEntriesOf h.entries (map (λ (t : Turn). t.entry) h.turns) order → AreCalled h.entries hier
 called named once h hier e firsts order legal for distinct shuffled are id within =
-    let own = call_of_entry h.entries (map (λ (t : Turn). t.entry) h.turns) order are id (named h id legal within) in
+    let turn = named h id legal within in
+    let own = call_of_turn h.entries h.turns order are turn.0 turn.1 in
     let among : Has e.calls own.0 = firsts_among distinct own.0 (has_shuffled order firsts shuffled own.0 own.1) in
     let view = view_of_call h.entries (walk hier) e.calls for.calls own.0 among in
     let over = for.elaboration.calls view.0 view.1 in
     let there = slice_get_within h.entries view.0.own.entry.0 over.form over.found in
-    (view.0, view.1, once h view.0.own.entry id own.0.tree legal there within view.2.tree own.2.1)
+    (view.0, view.1, once h view.0.own.entry turn.0.entry own.0.tree legal there own.2.0 view.2.tree own.2.1 ∙ turn.3)

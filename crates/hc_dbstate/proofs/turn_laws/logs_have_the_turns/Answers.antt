@@ -1,6 +1,6 @@
 use Rattle.std.proofs.Common.{map, ap, ◌∙◌}
 use Rattle.hc_dbstate.specs.declared.turns.Entered.{Entered}
-use Rattle.hc_dbstate.proofs.Named.{log_entries}
+use Rattle.hc_dbstate.proofs.Logged.{log_entries}
 use Rattle.hc_dbstate.proofs.Triples.{legal_names, log_is}
 use Rattle.hc_dbstate.proofs.turn_laws.logs_have_the_turns.Goals as goal
 

@@ -3,7 +3,7 @@ use Rattle.std.specs.Prelude.{slice_get, slice_index, Some}
 use Rattle.hc_signal.specs.declared.signal.Port.{Port}
 use Rattle.hc_flatsim.specs.Machine.{Machine, numbers}
 use Rattle.hc_flatsim.proofs.Ports.{output_is}
-use Rattle.hc_flatsim.proofs.flat.FlatSimSim.before.Goals as goal
+use Rattle.hc_flatsim.proofs.machine.FlatMachine.before.Goals as goal
 
 pub returns : goal.returns
 returns c =

@@ -1,7 +1,7 @@
 use Rattle.std.proofs.Common.{◌≡◌}
 use Rattle.std.specs.Prelude.{slice_set}
 use Rattle.hc_flatsim.proofs.Ports.{set_is, set_same}
-use Rattle.hc_flatsim.proofs.flat.FlatSimSim.set.Goals as goal
+use Rattle.hc_flatsim.proofs.machine.FlatMachine.set.Goals as goal
 
 pub returns-then-not-holds : goal.returns-then-not-holds
 returns-then-not-holds c = set_is c.args.self.now c.put.new.self c.args.port c.args.value c.put.ensures

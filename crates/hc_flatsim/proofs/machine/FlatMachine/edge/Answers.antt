@@ -1,6 +1,6 @@
 use Rattle.std.proofs.Common.{◌≡◌, sym, ◌∙◌}
 use Rattle.hc_flatsim.proofs.Knowing.{at_rest, edge_stands, edge_steps, still_settled}
-use Rattle.hc_flatsim.proofs.flat.FlatSim.edge.Goals as goal
+use Rattle.hc_flatsim.proofs.machine.FlatMachine.edge.Goals as goal
 
 pub know-requires : goal.know-requires
 know-requires c =

@@ -1,7 +1,7 @@
 use Rattle.std.proofs.Common.{subst, sym}
 use Rattle.hc_signal.specs.Tree.{leaf}
 use Rattle.hc_flatsim.specs.Machine.{Machine, IsKnown, numbers, state_of, valuation}
-use Rattle.hc_flatsim.proofs.flat.FlatSim.know.Goals as goal
+use Rattle.hc_flatsim.proofs.machine.FlatMachine.know.Goals as goal
 
 pub invariant_of-self : goal.invariant_of-self
 invariant_of-self c = record {

@@ -1,4 +1,5 @@
 pub mod Triples
+pub mod Logged
 pub mod Grows
 pub mod Replayed
 pub mod Unfolded

@@ -30,3 +30,4 @@ pub mod Ends
 pub mod HierSteps
 pub mod EndSteps
 pub mod Outs
+pub mod Called

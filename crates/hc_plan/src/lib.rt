@@ -1,6 +1,7 @@
 //! The distinct calls of a design, each with its body, or the first fault that the tree of calls shows.
 #![tactic(auto)]
 
+mod called_laws;
 mod deep;
 mod depth_first;
 mod ending;
@@ -12,6 +13,7 @@ mod rows;
 mod step;
 mod sums;
 
+pub use called_laws::{calls_stand_for_calls, entries_are_called};
 pub use depth_first::plan;
 pub use ending::conclude;
 pub use hierarchy::hier_of;

@@ -2,6 +2,7 @@
 #![tactic(auto)]
 
 mod fault_line;
+mod histories;
 mod op_use;
 mod prepared;
 mod run;

@@ -1,7 +1,16 @@
 pub mod Triples
+pub mod Logged
 pub mod Grows
 pub mod Replayed
 pub mod Unfolded
 pub mod Denoted
 pub mod Indexed
 pub mod Walks
+pub mod Named
+pub mod Marks
+pub mod Called
+pub mod Whole
+pub mod Stays
+pub mod Injected
+pub mod Weighing
+pub mod OwnCall

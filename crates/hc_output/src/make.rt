@@ -3,7 +3,7 @@ ghost use Rattle.hc_bench.specs.Steps.{AreStepsFor};
 ghost use Rattle.hc_dbstate.specs.Elaboration.{IsElaboration, hier_view};
 ghost use Rattle.hc_dbstate.specs.Unfolding.{unfolding_of};
 ghost use Rattle.hc_plan.specs.Elaborates.{Elaborated};
-ghost use Rattle.hc_plan.specs.Hierarchies.{IsHierarchyFor, LogsWalk};
+ghost use Rattle.hc_plan.specs.Hierarchies.{AreCalled, IsHierarchyFor};
 ghost use Rattle.hc_signal.specs.Occurrences.{HasCombLoop};
 ghost use Rattle.hc_signal.specs.Tree.{graph};
 ghost use Rattle.hc_words.specs.declared.job.Verb.TheVariants as verb;
@@ -81,7 +81,7 @@ fn verilog_output(
     Ok(Output { text, played: None })
 }
 
-/// What `stat` writes.
+/// What `stat` writes, where each entry of the database is that of a call.
 fn stat_output(
     alloc: Global,
     flat: bool,
@@ -93,7 +93,7 @@ fn stat_output(
     requires elaboration { IsElaboration db.now.entries hier.now }
     requires steps { AreStepsFor (graph (unfolding_of db.now.entries (hier_view hier.now).own.entry)).ports.inputs bench.now.steps }
     ensures ready { IfOk result IsReady }
-    ensures out { IfOk result (λ o. (e : Elaborated) → IsHierarchyFor db.now.entries hier.now e → LogsWalk (record { entries = []; turns = [] }) db.now hier.now → ¬ HasCombLoop e.tree → HasOutput verb.Stat flat title.now e bench.now.steps o) }
+    ensures out { IfOk result (λ o. (e : Elaborated) → IsHierarchyFor db.now.entries hier.now e → AreCalled db.now.entries hier.now → ¬ HasCombLoop e.tree → HasOutput verb.Stat flat title.now e bench.now.steps o) }
 {
     benches_have_runs();
     let text = summary(alloc, db, hier, bench)?;
@@ -153,7 +153,7 @@ fn both_output(
 }
 
 /// What a command writes for the hierarchy of a design, with all memory for it but the simulator's. The title is the name
-/// of the flattened circuit's module.
+/// of the flattened circuit's module. For `stat` each entry of the database is to be that of a call.
 pub fn prepare_output(
     alloc: Global,
     verb: Verb,
@@ -167,7 +167,7 @@ pub fn prepare_output(
     requires served { IsServed verb }
     requires steps { AreStepsFor (graph (unfolding_of db.now.entries (hier_view hier.now).own.entry)).ports.inputs bench.steps }
     ensures ready { IfOk result IsReady }
-    ensures out { IfOk result (λ o. (e : Elaborated) → IsHierarchyFor db.now.entries hier.now e → LogsWalk (record { entries = []; turns = [] }) db.now hier.now → ¬ HasCombLoop e.tree → HasOutput verb flat title.now e bench.steps o) }
+    ensures out { IfOk result (λ o. (e : Elaborated) → IsHierarchyFor db.now.entries hier.now e → (verb ≡ verb.Stat → AreCalled db.now.entries hier.now) → ¬ HasCombLoop e.tree → HasOutput verb flat title.now e bench.steps o) }
 {
     match verb {
         Verb::Verilog => verilog_output(alloc, flat, title, db, hier, &bench),

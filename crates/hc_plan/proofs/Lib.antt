@@ -29,3 +29,7 @@ pub mod Again
 pub mod Ends
 pub mod WholeTrees
 pub mod Answered
+pub mod HierSteps
+pub mod EndSteps
+pub mod Outs
+pub mod Called

@@ -2,9 +2,10 @@
 #![tactic(auto)]
 
 mod answer_laws;
-mod conclude;
+mod called_laws;
 mod deep;
 mod depth_first;
+mod ending;
 mod hierarchy;
 pub mod kinds;
 mod laws;
@@ -15,14 +16,14 @@ mod sums;
 mod whole_laws;
 
 pub use answer_laws::designs_have_answers;
-pub use conclude::conclude;
+pub use called_laws::{calls_stand_for_calls, entries_are_called};
 pub use depth_first::plan;
+pub use ending::conclude;
 pub use hierarchy::hier_of;
 pub use laws::{
-    calls_are_not_below_themselves, calls_met_again, deep_calls_stop,
-    designs_elaborate_once, distinct_calls_decide, elaborated_trees, equal_calls_are_alike,
-    loops_come_first, plans_decide, plans_elaborate, rows_add_up, tree_faults_are_single,
-    walks_are_finishes,
+    calls_are_not_below_themselves, calls_met_again, deep_calls_stop, designs_elaborate_once,
+    distinct_calls_decide, elaborated_trees, equal_calls_are_alike, loops_come_first, plans_decide,
+    plans_elaborate, rows_add_up, tree_faults_are_single, walks_are_finishes,
 };
 pub use step::{Step, form_of};
 pub use sums::Sums;

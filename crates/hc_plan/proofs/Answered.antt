@@ -1,5 +1,5 @@
 -- No design is without an answer. Whether a tree has a loop is not decided here, so that each answer is told by contradiction.
-use Rattle.std.proofs.Common.{◌≡◌, ℕ, zero, suc, ◌+◌, ◌<◌, ◌≤◌, ◌⊎◌, inl, inr, List, [], ◌∷◌, ◌++◌, refl, sym, ap, arith}
+use Rattle.std.proofs.Common.{◌≡◌, ℕ, zero, suc, ◌+◌, ◌<◌, ◌≤◌, ◌⊎◌, inl, inr, List, [], ◌∷◌, ◌++◌, refl, arith}
 use Rattle.std.specs.Prelude.{slice_get, Option, Some, None, Result, Ok, Err, ℤ}
 use Rattle.std.proofs.lemmas.Bool.{cases_lt}
 use Rattle.hc_fault.specs.declared.fault.Fault.{Fault}
@@ -13,7 +13,7 @@ use Rattle.hc_signal.specs.Tree.{Tree}
 use Rattle.hc_statements.specs.Elaborated.{child_path, fault_at}
 use Rattle.hc_statements.specs.declared.kinds.Call.{Call}
 use Rattle.hc_statements.specs.declared.kinds.Child.{Child}
-use Rattle.hc_body.specs.BodyOf.{BodyOf, IsCall, IsCallOf}
+use Rattle.hc_body.specs.BodyOf.{BodyOf, IsCall}
 use Rattle.hc_body.specs.TopCall.{top_call, top_path}
 use Rattle.hc_body.specs.declared.kinds.Body.{Body}
 use Rattle.hc_plan.specs.Elaborates.{DesignElaborates, ElaborateChildren, Elaborated, Elaborates, FinishedCall, Sums, body_fault, body_tree, called, child_fault, comb_loop, elaborated_call, fault_in_child, finished_call, later_fault, limit_passed, many_words, most_levels, most_words, no_call, no_more, one_more, own_sums, past_limit, plus, too_deep, whole}

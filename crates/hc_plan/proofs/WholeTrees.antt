@@ -1,13 +1,12 @@
 -- The tree of what elaborates is whole, and has the ports of its call.
 use Rattle.std.proofs.Common.{◌≡◌, ℕ, zero, suc, ◌<◌, List, [], ◌∷◌, length, refl, sym, ap, subst, ◌∙◌, arith}
-use Rattle.std.specs.Prelude.{slice_get, Some, Result, Ok, Err, ℤ}
+use Rattle.std.specs.Prelude.{slice_get, Some, Result, Ok, ℤ}
 use Rattle.std.proofs.lemmas.Option.{slice_get_within}
 use Rattle.hc_fault.specs.declared.fault.Fault.{Fault}
 use Rattle.hc_fault.specs.declared.fault.Path.{Path}
 use Rattle.hc_lang.specs.declared.tree.CircuitText.{CircuitText}
 use Rattle.hc_lang.specs.declared.tree.Design.{Design}
 use Rattle.hc_signal.specs.declared.signal.Instance.{Instance}
-use Rattle.hc_signal.specs.declared.signal.Ports.{Ports}
 use Rattle.hc_signal.specs.Lawful.{IsLawful}
 use Rattle.hc_signal.specs.Tree.{IsWhole, Tree, graph}
 use Rattle.hc_statements.specs.PortWidths.{port_widths, ports_of}
@@ -16,7 +15,7 @@ use Rattle.hc_statements.specs.declared.kinds.Child.{Child}
 use Rattle.hc_body.specs.BodyOf.{BodyOf, IsCall, IsCallOf}
 use Rattle.hc_body.specs.Children.{AreChildrenOf}
 use Rattle.hc_body.specs.declared.kinds.Body.{Body}
-use Rattle.hc_plan.specs.Elaborates.{DesignFinishes, ElaborateChildren, Elaborated, Elaborates, FinishedCall, Sums, body_fault, body_tree, called, child_fault, comb_loop, elaborated_call, fault_in_child, later_fault, many_words, no_call, no_more, one_more, past_limit, too_deep, tree_of_kid, whole}
+use Rattle.hc_plan.specs.Elaborates.{DesignFinishes, ElaborateChildren, Elaborated, Elaborates, FinishedCall, Sums, body_fault, body_tree, called, child_fault, comb_loop, elaborated_call, fault_in_child, later_fault, many_words, no_more, one_more, past_limit, too_deep, tree_of_kid, whole}
 use Rattle.hc_plan.proofs.Right.{HaveChildren, HavePorts}
 
 abbrev pub AreLawful : Design → Type 0

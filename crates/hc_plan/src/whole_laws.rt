@@ -3,8 +3,8 @@ ghost use Rattle.hc_lang.specs.declared.tree.Design.{Design};
 ghost use Rattle.hc_plan.specs.Elaborates.{DesignElaborates, Elaborated};
 ghost use Rattle.hc_signal.specs.Tree.{IsWhole};
 
-use hc_body::laws::{bodies_have_their_children, bodies_have_their_ports};
 use hc_body::lawful_laws::bodies_are_lawful;
+use hc_body::laws::{bodies_have_their_children, bodies_have_their_ports};
 
 /// The tree of an elaborated design is whole.
 pub fn elaborated_trees_are_whole()

@@ -1,26 +1,22 @@
 -- An instance keeps a body formed.
-use Rattle.std.proofs.Common.{◌≡◌, ℕ, ◌+◌, ◌<◌, ◌≤◌, Bool, true, false, not, List, [], ◌∷◌, ◌++◌, length, refl, sym, subst, ap, ◌∙◌, arith, length-append}
-use Rattle.std.specs.Prelude.{Option, Some, None, if◌then◌else◌, is_some, position, slice_get, slice_set, Result, Ok, Err, ℤ}
+use Rattle.std.proofs.Common.{◌≡◌, ℕ, ◌+◌, ◌<◌, Bool, true, false, not, List, [], ◌∷◌, ◌++◌, length, refl, subst, arith, length-append}
+use Rattle.std.specs.Prelude.{Option, Some, None, if◌then◌else◌, is_some, slice_get, slice_set, Result, Ok, Err, ℤ}
 use Rattle.std.specs.Str.{bytes_eq}
 use Rattle.std.proofs.lemmas.List.{length_push}
 use Rattle.std.proofs.lemmas.List.Quantifiers.{position-Some}
 use Rattle.hc_fault.specs.declared.fault.FaultKind.{FaultKind}
 use Rattle.hc_fault.specs.declared.fault.FaultKind.TheVariants.{UnknownPort, RepeatedName, RepeatedPort, WidthMismatch}
-use Rattle.hc_bits.specs.BitVector.{IsWidth}
 use Rattle.hc_lang.specs.declared.tree.CircuitText.{CircuitText}
 use Rattle.hc_lang.specs.declared.tree.Design.{Design}
-use Rattle.hc_lang.specs.declared.tree.Head.{Head}
 use Rattle.hc_num.specs.Value.{Outcome}
-use Rattle.hc_signal.specs.declared.signal.InstId.{InstId}
 use Rattle.hc_signal.specs.declared.signal.Instance.{Instance}
 use Rattle.hc_signal.specs.declared.signal.NodeId.{NodeId}
 use Rattle.hc_signal.specs.declared.signal.Port.{Port}
 use Rattle.hc_signal.specs.declared.signal.Ports.{Ports}
 use Rattle.hc_signal.specs.Graph.{Graph}
-use Rattle.hc_signal.specs.Lawful.{ArePorts, HasWidth, HaveWidthsOf}
+use Rattle.hc_signal.specs.Lawful.{ArePorts, HaveWidthsOf}
 use Rattle.hc_signal.specs.Builds.{IsNode, output_rows}
-use Rattle.hc_unfold.specs.Formed.{IsFormed, more_instances}
-use Rattle.hc_unfold.specs.Gives.{Grows}
+use Rattle.hc_unfold.specs.Formed.{more_instances}
 use Rattle.hc_unfold.specs.Names.{Key, meaning}
 use Rattle.hc_unfold.specs.declared.names.Target.TheVariants as target
 use Rattle.hc_unfold.specs.Drawing.{and_then, found}
@@ -30,16 +26,16 @@ use Rattle.hc_unfold.specs.Signals.{Place, Signal}
 use Rattle.hc_statements.specs.Connections.{FitPorts, FitsAt}
 use Rattle.hc_statements.specs.Formed.{IsFormedBody}
 use Rattle.hc_statements.specs.Gives.{AreWidths}
-use Rattle.hc_statements.specs.Instances.{Connected, all_connected, arguments, circuit_at, circuit_place, connect, connected, connected_from, connections, fits, has_width, ident_of, inst_step, instance, instantiated, is_connected, next_instance, open_place, placed, unconnected, widths_of, with_widths}
+use Rattle.hc_statements.specs.Instances.{Connected, all_connected, arguments, circuit_at, circuit_place, connect, connected, connections, fits, has_width, ident_of, inst_step, instance, instantiated, is_connected, next_instance, open_place, placed, unconnected, widths_of, with_widths}
 use Rattle.hc_statements.specs.PortWidths.{PortWidths, inputs_of, port_widths, ports_of}
 use Rattle.hc_statements.specs.Statements.{signal_node}
-use Rattle.hc_statements.specs.Steps.{Broken, Elaborating, Steps, add_child, answer, bind, draw, given, is_new, with_graph, ◌>>=◌, ◌>>◌}
+use Rattle.hc_statements.specs.Steps.{Elaborating, Steps, add_child, answer, bind, draw, given, is_new, with_graph, ◌>>=◌, ◌>>◌}
 use Rattle.hc_statements.specs.Unrolled.{Text}
 use Rattle.hc_statements.specs.declared.kinds.Call.{Call}
 use Rattle.hc_statements.specs.declared.kinds.Child.{Child}
-use Rattle.hc_statements.proofs.Connected.{connected_fit, fit_more, fit_none, fit_still, has_width_at}
+use Rattle.hc_statements.proofs.Connected.{connected_fit, fit_more, fit_none, has_width_at}
 use Rattle.hc_statements.proofs.FormedHeads.{widths_are}
-use Rattle.hc_statements.proofs.FormedSteps.{Any, Below, Ends, Keeps, ends_bound, ends_then, kept_answer, kept_given, kept_new, kept_rule, kept_signal, kept_then}
+use Rattle.hc_statements.proofs.FormedSteps.{Any, Below, Ends, Keeps, ends_bound, ends_then, kept_answer, kept_given, kept_rule, kept_signal, kept_then}
 use Rattle.hc_statements.proofs.HeadSteps.{are_ports}
 use Rattle.hc_statements.proofs.Known.{grows_none, grows_on, known_longer, node_still}
 

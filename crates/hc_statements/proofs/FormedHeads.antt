@@ -1,21 +1,20 @@
 -- The heads of a circuit make a formed body.
-use Rattle.std.proofs.Common.{◌≡◌, ℕ, zero, suc, ◌<◌, Bool, true, false, List, [], ◌∷◌, ◌++◌, length, refl, sym, subst, ap, ◌∙◌, arith}
-use Rattle.std.specs.Prelude.{Option, Some, None, if◌then◌else◌, slice_get, Result, Ok, Err, ℤ}
+use Rattle.std.proofs.Common.{◌≡◌, ℕ, Bool, true, false, List, [], ◌∷◌, ◌++◌, refl, subst, arith}
+use Rattle.std.specs.Prelude.{if◌then◌else◌, Result, Ok, Err, ℤ}
 use Rattle.hc_fault.specs.declared.fault.FaultKind.{FaultKind}
 use Rattle.hc_fault.specs.declared.fault.FaultKind.TheVariants.{RepeatedName}
 use Rattle.hc_bits.specs.BitVector.{IsWidth}
 use Rattle.hc_lang.specs.declared.tree.CircuitText.{CircuitText}
 use Rattle.hc_lang.specs.declared.tree.Head.{Head}
 use Rattle.hc_num.specs.Value.{Bindings, Outcome, value}
-use Rattle.hc_signal.specs.Member.{Has, first, later}
-use Rattle.hc_signal.specs.Graph.{Graph}
+use Rattle.hc_signal.specs.Member.{first, later}
 use Rattle.hc_signal.specs.Tree.{empty}
 use Rattle.hc_unfold.specs.Formed.{IsFormed}
 use Rattle.hc_unfold.specs.Drawing.{and_then, as_width, next}
 use Rattle.hc_statements.specs.Formed.{IsFormedBody}
 use Rattle.hc_statements.specs.Gives.{AreWidths}
 use Rattle.hc_statements.specs.PortWidths.{PortWidths, at_line, before, is_among, new_name, parameters, port_widths, repeats, width_of, widths_after}
-use Rattle.hc_statements.specs.Statements.{declared, open_head, open_heads, open_input, open_output, with_input, with_output}
+use Rattle.hc_statements.specs.Statements.{open_head, open_heads, open_input, open_output, with_input, with_output}
 use Rattle.hc_statements.specs.Steps.{Elaborating, nothing}
 use Rattle.hc_statements.specs.Unrolled.{Text}
 use Rattle.hc_statements.proofs.FormedSteps.{Below}

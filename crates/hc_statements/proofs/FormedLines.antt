@@ -1,10 +1,10 @@
 -- Each statement keeps a body formed.
 use Rattle.std.proofs.Common.{◌≡◌, ℕ, subst}
-use Rattle.std.specs.Prelude.{Result, Ok}
+use Rattle.std.specs.Prelude.{Ok}
 use Rattle.hc_lang.specs.declared.tree.Design.{Design}
 use Rattle.hc_statements.specs.Elaborated.{statement_step}
 use Rattle.hc_statements.specs.Formed.{IsFormedBody}
-use Rattle.hc_statements.specs.Steps.{Broken, Elaborating}
+use Rattle.hc_statements.specs.Steps.{Elaborating}
 use Rattle.hc_statements.specs.Unrolled.{Statement, Let, Wire, Assign, Label, Reg, Memory, Write, Inst}
 use Rattle.hc_statements.proofs.FormedConnections.{ends_inst}
 use Rattle.hc_statements.proofs.FormedStatements.{ends_assign, ends_label, ends_let, ends_memory, ends_reg, ends_wire, ends_write}

@@ -1,20 +1,19 @@
 -- Each plain statement keeps a body formed.
-use Rattle.std.proofs.Common.{◌≡◌, ℕ, zero, suc, ◌+◌, ◌<◌, ◌≤◌, Bool, true, false, not, ◌&&◌, ◌==◌, List, [], ◌∷◌, ◌++◌, length, refl, sym, subst, ap, ◌∙◌, arith}
-use Rattle.std.specs.Prelude.{Option, Some, None, option_map, slice_get, Result, Ok, Err, ℤ, pos, negsuc, nat_abs, nat_le, nat_lt}
-use Rattle.std.proofs.lemmas.Bool.{and_parts, eqb-true, leb-true, ltb-true, not-true}
+use Rattle.std.proofs.Common.{◌≡◌, ℕ, ◌+◌, ◌≤◌, Bool, true, false, not, ◌&&◌, ◌==◌, [], ◌∷◌, ◌++◌, length, refl, arith}
+use Rattle.std.specs.Prelude.{Option, Some, None, Ok, Err, ℤ, pos, negsuc, nat_abs, nat_le}
+use Rattle.std.proofs.lemmas.Bool.{and_parts, eqb-true, leb-true, not-true}
 use Rattle.std.proofs.lemmas.List.{length_push}
 use Rattle.hc_fault.specs.declared.fault.FaultKind.{FaultKind}
 use Rattle.hc_fault.specs.declared.fault.FaultKind.TheVariants as fault
-use Rattle.hc_bits.specs.BitVector.{BitVector, IsVector, IsWidth}
+use Rattle.hc_bits.specs.BitVector.{IsWidth}
 use Rattle.hc_num.specs.Value.{Outcome}
-use Rattle.hc_signal.specs.declared.signal.InstId.{InstId}
 use Rattle.hc_signal.specs.declared.signal.MemId.{MemId}
 use Rattle.hc_signal.specs.declared.signal.Node.TheVariants as node
 use Rattle.hc_signal.specs.declared.signal.NodeId.{NodeId}
 use Rattle.hc_signal.specs.Graph.{Graph}
-use Rattle.hc_signal.specs.Rules.{drive_rule, first_broken, is_width, label_rule, rule, size_rule, width_rule, write_rule}
-use Rattle.hc_signal.specs.Builds.{IsInstance, IsMemory, IsNode, IsWire, MayBeNode, has_instance_label, has_memory_label, has_node_label, is_driven_at, is_port_node, memory_width_at, unlabelled, width_at, with_driver, with_instance_label, with_memory_label, with_node_label, with_row, with_write}
-use Rattle.hc_unfold.specs.Formed.{ChangesKeepForm, IsFormed}
+use Rattle.hc_signal.specs.Rules.{drive_rule, first_broken, label_rule, rule, size_rule, write_rule}
+use Rattle.hc_signal.specs.Builds.{IsMemory, IsNode, IsWire, MayBeNode, has_instance_label, has_memory_label, has_node_label, is_driven_at, is_port_node, memory_width_at, width_at, with_driver, with_instance_label, with_memory_label, with_node_label, with_write}
+use Rattle.hc_unfold.specs.Formed.{IsFormed}
 use Rattle.hc_unfold.specs.Gives.{Grows}
 use Rattle.hc_unfold.specs.Names.{AreKnown, IsThere, Key, meaning}
 use Rattle.hc_unfold.specs.declared.names.Target.{Target}
@@ -24,12 +23,12 @@ use Rattle.hc_unfold.specs.Places.{key}
 use Rattle.hc_unfold.specs.Signals.{Place, Signal}
 use Rattle.hc_statements.specs.Formed.{IsFormedBody}
 use Rattle.hc_statements.specs.Registers.{clear_node, register}
-use Rattle.hc_statements.specs.Steps.{Broken, Elaborating, Steps, answer, bind, changed, declare, define, demand, draw, given, go_on, is_new, lifted, meaning_of, with_graph, ◌>>=◌, ◌>>◌}
+use Rattle.hc_statements.specs.Steps.{Elaborating, Steps, answer, bind, changed, declare, define, demand, draw, given, go_on, is_new, lifted, meaning_of, with_graph, ◌>>=◌, ◌>>◌}
 use Rattle.hc_statements.specs.Statements.{assign_step, clear_part, drive, label_step, let_step, memory, memory_named, memory_step, new_memory, next_memory, optional, put_label, reg_step, signal_node, wire, wire_named, wire_step, write, write_step}
 use Rattle.hc_statements.specs.Unrolled.{Text}
 use Rattle.hc_statements.proofs.FormedRegisters.{formed_register, one_more}
 use Rattle.hc_statements.proofs.FormedSteps.{Any, Ends, Keeps, Below, ends_bound, ends_then, kept_answer, kept_demand, kept_drawn, kept_given, kept_memory_named, kept_new, kept_signal, kept_then, kept_wire_named}
-use Rattle.hc_statements.proofs.Known.{grows_none, known_driven, known_instance_label, known_longer, known_meaning, known_memory_label, known_node_label, known_written, may_still, memory_still, node_still, row_added, wire_still}
+use Rattle.hc_statements.proofs.Known.{grows_none, known_driven, known_instance_label, known_longer, known_meaning, known_memory_label, known_node_label, known_written, may_still, memory_still, node_still, wire_still}
 
 test_holds : (kind : FaultKind) (b : Bool) → rule kind b ≡ None → b ≡ true
 test_holds kind true e = refl
@@ -203,9 +202,10 @@ module _ (below : Below) where
   ends_written : (e : Elaborating) (id : MemId) (enable addr value : NodeId) → IsFormedBody e → IsMemory e.graph id → IsNode e.graph enable → IsNode e.graph addr → IsNode e.graph value → Ends (write id enable addr value e)
   ends_written e id enable addr value l there ne na nv =
       ends_changed e (write_rule (width_at e.graph enable) (width_at e.graph value) (memory_width_at e.graph id)) (with_write e.graph id (record { enable = enable; addr = addr; value = value }))
-      (λ holds. (let parts : _ = and_parts (width_at e.graph enable == 1) (width_at e.graph value == memory_width_at e.graph id) (test_holds fault.WidthMismatch ((width_at e.graph enable == 1) && (width_at e.graph value == memory_width_at e.graph id)) holds) in
-      (below.changes.write e.graph id (record { enable = enable; addr = addr; value = value }) l.graph there ne na nv (eqb-true (width_at e.graph enable) 1 parts.0) (eqb-true (width_at e.graph value) (memory_width_at e.graph id) parts.1),
-      known_written e.graph (with_write e.graph id (record { enable = enable; addr = addr; value = value })) e.names id (record { enable = enable; addr = addr; value = value }) l.names refl)))
+      (λ holds. (let parts : _ = and_parts (width_at e.graph enable == 1) (width_at e.graph value == memory_width_at e.graph id) (test_holds fault.WidthMismatch ((width_at e.graph enable == 1) && (width_at e.graph value == memory_width_at e.graph id)) holds) in (
+        below.changes.write e.graph id (record { enable = enable; addr = addr; value = value }) l.graph there ne na nv (eqb-true (width_at e.graph enable) 1 parts.0) (eqb-true (width_at e.graph value) (memory_width_at e.graph id) parts.1),
+        known_written e.graph (with_write e.graph id (record { enable = enable; addr = addr; value = value })) e.names id (record { enable = enable; addr = addr; value = value }) l.names refl,
+      )))
 
   -- the rest of a write line after each part
   module _ (en a v : Signal) where

@@ -1,5 +1,5 @@
 -- What the parts of a statement keep while they draw.
-use Rattle.std.proofs.Common.{◌≡◌, ℕ, ◌<◌, Bool, true, false, not, List, [], ◌∷◌, ◌++◌, length, refl, sym, subst, ap, ◌∙◌, arith}
+use Rattle.std.proofs.Common.{◌≡◌, ℕ, Bool, true, false, not, [], ◌∷◌, ◌++◌, refl, subst}
 use Rattle.std.specs.Prelude.{Option, Some, None, if◌then◌else◌, is_some, slice_get, Result, Ok, Err, ℤ}
 use Rattle.hc_fault.specs.declared.fault.FaultKind.{FaultKind}
 use Rattle.hc_fault.specs.declared.fault.FaultKind.TheVariants.{RepeatedName, UnknownName}
@@ -18,8 +18,8 @@ use Rattle.hc_unfold.specs.declared.names.Target.TheVariants as target
 use Rattle.hc_unfold.specs.Nodes.{node_of}
 use Rattle.hc_unfold.specs.Signals.{Signal}
 use Rattle.hc_statements.specs.Formed.{IsFormedBody}
-use Rattle.hc_statements.specs.Steps.{Broken, Elaborating, Steps, answer, bind, demand, draw, given, go_on, is_new, lifted, rule, with_graph, ◌>>=◌}
-use Rattle.hc_statements.specs.Statements.{as_wire, memory_named, optional, signal_node, wire_in, wire_named}
+use Rattle.hc_statements.specs.Steps.{Broken, Elaborating, Steps, bind, demand, given, go_on, is_new, lifted, rule}
+use Rattle.hc_statements.specs.Statements.{as_wire, memory_named, signal_node, wire_in, wire_named}
 use Rattle.hc_statements.proofs.Known.{grows_none, grows_on, known_added, known_meaning, known_still}
 
 -- ---- steps that draw nodes alone, and what ends a statement

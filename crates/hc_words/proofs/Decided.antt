@@ -1,10 +1,10 @@
 -- Words have a job, of a command that the program has, or none.
-use Rattle.std.proofs.Common.{◌≡◌, ◌⊎◌, inl, inr, ℕ, Bool, true, false, ◌||◌, List, [], ◌∷◌, map, codes, refl, sym, ap, subst, ◌∙◌, true≢false}
-use Rattle.std.specs.Prelude.{Option, Some, None}
+use Rattle.std.proofs.Common.{◌≡◌, ◌⊎◌, inl, inr, Bool, true, false, ◌||◌, List, [], ◌∷◌, map, codes, refl, sym, ap, ◌∙◌, true≢false}
+use Rattle.std.specs.Prelude.{Some}
 use Rattle.std.specs.List.{list_any}
 use Rattle.std.specs.Str.{bytes_eq}
 use Rattle.std.proofs.lemmas.Slice.Eq.{bytes_eq-Decides}
-use Rattle.hc_words.specs.Items.{IsSpelledBy, Item, Text, command_names, commands, is_about, is_command, name_of, text_at, workers}
+use Rattle.hc_words.specs.Items.{IsSpelledBy, Item, Text, commands, is_about, is_command, name_of, text_at, workers}
 use Rattle.hc_words.specs.Jobs.{HasNoJob, IsJob, number_of}
 use Rattle.hc_words.specs.Form.{nothing_seen, passes}
 use Rattle.hc_words.specs.declared.job.Job.{Job}

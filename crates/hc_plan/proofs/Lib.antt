@@ -33,3 +33,4 @@ pub mod HierSteps
 pub mod EndSteps
 pub mod Outs
 pub mod Called
+pub mod CheckedTrees

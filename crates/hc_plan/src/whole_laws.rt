@@ -1,6 +1,8 @@
-ghost use Rattle.std.specs.Prelude.{Ok};
+ghost use Rattle.std.specs.Prelude.{ℕ, List, Ok};
 ghost use Rattle.hc_lang.specs.declared.tree.Design.{Design};
 ghost use Rattle.hc_plan.specs.Elaborates.{DesignElaborates, Elaborated};
+ghost use Rattle.hc_signal.specs.Checked.{IsChecked};
+ghost use Rattle.hc_signal.specs.Occurrences.{graph_at, tree_at};
 ghost use Rattle.hc_signal.specs.Tree.{IsWhole};
 
 use hc_body::lawful_laws::bodies_are_lawful;
@@ -14,3 +16,8 @@ pub fn elaborated_trees_are_whole()
     bodies_have_their_ports();
     bodies_have_their_children();
 }
+
+/// Each circuit of the tree of an elaborated design is checked.
+pub fn elaborated_circuits_are_checked()
+    ensures { (d : Design) (e : Elaborated) → DesignElaborates d (Ok e) → (path : List ℕ) → IsWhole (tree_at e.tree path) → IsChecked (graph_at e.tree path) }
+{}

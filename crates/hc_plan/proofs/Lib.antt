@@ -34,3 +34,4 @@ pub mod EndSteps
 pub mod Outs
 pub mod Called
 pub mod CheckedTrees
+pub mod LightTrees

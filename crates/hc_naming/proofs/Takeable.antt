@@ -1,13 +1,12 @@
 -- Wanted names can be taken.
-use Rattle.std.proofs.Common.{◌≡◌, ℕ, ◌+◌, ◌-◌, ◌<◌, ◌≤◌, ◌^◌, min, Bool, true, false, cond, List, [], ◌∷◌, ◌++◌, map, drop, length, filter, refl, arith, length-append}
+use Rattle.std.proofs.Common.{◌≡◌, ℕ, ◌+◌, ◌-◌, ◌<◌, ◌≤◌, ◌^◌, min, Bool, true, false, cond, List, [], ◌∷◌, ◌++◌, drop, length, filter, refl, arith, length-append}
 use Rattle.std.specs.List.{zip, enumerate_from}
 use Rattle.std.proofs.lemmas.List.{length-drop, length-map, length_push}
 use Rattle.std.proofs.lemmas.List.FromFn.{length-enumerate_from}
 use Rattle.std.proofs.lemmas.Slice.Zip.{length-zip}
-use Rattle.hc_signal.specs.declared.signal.NodeRow.{NodeRow}
 use Rattle.hc_signal.specs.Graph.{Graph}
 use Rattle.hc_names.specs.Mangling.{IsMangled}
-use Rattle.hc_naming.specs.ModuleNames.{Named, Takes, Wants, clock, first_number, inner_nodes, is_inner, is_operation_row, numbered_nodes, operation_nodes, want_cell, want_cells, want_input, want_inputs, want_instance, want_instances, want_memories, want_memory, want_node, want_nodes, want_output, want_outputs, wanted}
+use Rattle.hc_naming.specs.ModuleNames.{Named, Takes, Wants, first_number, inner_nodes, is_inner, is_operation_row, numbered_nodes, operation_nodes, want_cell, want_cells, want_input, want_inputs, want_instance, want_instances, want_memories, want_memory, want_node, want_nodes, want_output, want_outputs, wanted}
 
 abbrev pub AreMangled : Type 0
 AreMangled = (name : List ℕ) (used : List (List ℕ)) → length used < 2 ^ 64 → (result : List ℕ) × IsMangled name used result

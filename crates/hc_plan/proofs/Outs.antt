@@ -1,8 +1,7 @@
 -- What became of rows, one after another.
-use Rattle.std.proofs.Common.{◌≡◌, ℕ, zero, suc, ◌+◌, ◌<◌, ◌≤◌, List, [], ◌∷◌, ◌++◌, length, map, take, drop, get_or, refl, sym, ap, subst, ◌∙◌, arith}
+use Rattle.std.proofs.Common.{◌≡◌, ℕ, zero, suc, ◌+◌, ◌<◌, ◌≤◌, List, [], ◌∷◌, ◌++◌, length, take, drop, get_or, refl, sym, ap, subst, ◌∙◌, arith}
 use Rattle.std.proofs.lemmas.List.{length-map, map-append, take_more, take-append-drop, at_drop_more}
 use Rattle.std.specs.Prelude.{slice_get, Option, Some, None, Vec}
-use Rattle.hc_signal.specs.Graph.{Graph}
 use Rattle.hc_signal.specs.Tree.{Tree, tree}
 use Rattle.hc_signal.specs.Occurrences.{HasCombLoop, AreMasks}
 use Rattle.hc_paths.specs.declared.kinds.Paths.{Paths}
@@ -11,8 +10,8 @@ use Rattle.hc_paths.specs.Local.{AreMasksOfKids}
 use Rattle.hc_canon.specs.declared.form.EntryId.{EntryId}
 use Rattle.hc_canon.specs.FormView.{FormView, IsCanonOf}
 use Rattle.hc_plan.specs.Hierarchies.{Done}
-use Rattle.hc_plan.specs.Finishing.{Outcome, all_done, put_first, outcome_in, ids_of, masks_of}
-use Rattle.hc_plan.specs.Stepping.{AreKids, AreKidsOf, IsReady, IsLooped, outcome_of, outs_of}
+use Rattle.hc_plan.specs.Finishing.{Outcome, all_done, put_first, outcome_in, masks_of}
+use Rattle.hc_plan.specs.Stepping.{AreKidsOf, IsReady, IsLooped, outcome_of, outs_of}
 use Rattle.hc_plan.specs.declared.kinds.PlanRow.{PlanRow}
 
 -- an outcome at a place, seen by its masks

@@ -5,3 +5,4 @@ pub mod Unfolded
 pub mod Denoted
 pub mod Indexed
 pub mod Walks
+pub mod Kept

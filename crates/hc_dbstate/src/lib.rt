@@ -10,7 +10,7 @@ mod turns;
 pub use database::DbState;
 pub use hier::{Hier, walks_are_whole};
 pub use laws::{
-    entries_grow_with_the_log, entries_unfold_once, logs_name_entries, logs_replay,
+    entries_grow_with_the_log, entries_keep_their_forms, entries_unfold_once, logs_name_entries, logs_replay,
     made_forms_tell_trees_apart, unfoldings_are_of_kids,
 };
 pub use turns::{Entered, Turn};

@@ -23,7 +23,8 @@ module _ {X : Type 0} where
   has_right [] ys x h = h
   has_right (y ∷ xs) ys x h = later (has_right xs ys x h)
 
-  All-has : (P : X → Type 0) (xs : List X) (x : X) → All P xs → Has xs x → P x
+  -- what holds of all holds of each
+  pub All-has : (P : X → Type 0) (xs : List X) (x : X) → All P xs → Has xs x → P x
   All-has P [] x all h = elim h [ ]
   All-has P (y ∷ xs) x all first = All-head P y xs all
   All-has P (y ∷ xs) x all (later h) = All-has P xs x (All-tail P y xs all) h

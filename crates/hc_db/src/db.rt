@@ -44,6 +44,8 @@ impl Db {
     /// insertion, whose place is the pass's own. It waits until no other pass has the turn.
     ///
     /// It is refused only for want of memory. Then the form comes back and the call adds no turn, but the pass has seen the log.
+    ///
+    /// A pass with all 64 shares owns each place of the log that it has then seen.
     pub fn insert<R: Wait>(
         &self,
         rt: &R,
@@ -57,6 +59,7 @@ impl Db {
         ensures free { HoldsNothing pass.new }
         ensures share { share pass.new ≡ share pass.old }
         ensures seen { IsPrefix (seen pass.old) (seen pass.new) × ArePrefixesOf (seen pass.new) (kept pass.old) }
+        ensures all { share pass.old ≡ 64 → IsPermutation (places_of (seen pass.new)) (mine pass.new) }
         ensures ok { IfOk result (λ id. Inserts (known pass.old) form id (known pass.new)) }
         ensures err { OnErr result (InsertsNothing (known pass.old) (known pass.new)) }
         ensures back { IfErr result (λ refused. refused.0 ≡ form) }

@@ -7,4 +7,4 @@ mod laws;
 
 pub use db::{Db, Pass};
 pub use kept::Kept;
-pub use laws::{known_entries_are_there, known_entries_stay_known};
+pub use laws::{known_entries_are_there, known_entries_stay_known, known_turns_stay_known};

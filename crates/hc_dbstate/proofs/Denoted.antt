@@ -47,7 +47,7 @@ module _ (entries : List FormView) (f g : Graph) (ids others : List EntryId) (s 
   )
 
 -- a form is the form of its own circuit and kids
-own_canon : (x : FormView) → IsForm x → IsCanonOf x.circuit x.kids x
+pub own_canon : (x : FormView) → IsForm x → IsCanonOf x.circuit x.kids x
 own_canon x f =
     let s : Same (tree x.circuit (λ i. none)) (tree x.circuit (λ i. none)) = same-refl (tree x.circuit (λ i. none)) in
     record {
@@ -60,7 +60,8 @@ own_canon x f =
     }
 
 module _ (h : History) (legal : IsLegal h) where
-  own_denoted : (k : ℕ) (x : FormView) → slice_get h.entries k ≡ Some x → AreDenoted h.entries x.kids (λ i. kid_tree (unfolded h legal) (slice_get x.kids i))
+  -- the kids of an entry denote their unfoldings
+  pub own_denoted : (k : ℕ) (x : FormView) → slice_get h.entries k ≡ Some x → AreDenoted h.entries x.kids (λ i. kid_tree (unfolded h legal) (slice_get x.kids i))
   own_denoted k x q i id e =
       let b : id.0 < k = kid_below h legal k x i id q e in
       let c : k < length h.entries = slice_get_within h.entries k x q in

@@ -6,3 +6,11 @@ pub mod Denoted
 pub mod Indexed
 pub mod Walks
 pub mod Kept
+pub mod Named
+pub mod Marks
+pub mod Called
+pub mod Whole
+pub mod Stays
+pub mod Injected
+pub mod Weighing
+pub mod OwnCall

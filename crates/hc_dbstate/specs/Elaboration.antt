@@ -2,14 +2,16 @@
 use Rattle.std.specs.Prelude.{◌≡◌, ℕ, suc, ◌+◌, ◌<◌, ◌≤◌, ◌==◌, max, List, [], ◌∷◌, ◌++◌, fold, map, flat_map, sum_by, count_by, slice_get, Some}
 use Rattle.hc_signal.specs.Member.{Has}
 use Rattle.hc_signal.specs.declared.signal.Instance.{Instance}
+use Rattle.hc_signal.specs.Graph.{Graph}
 use Rattle.hc_signal.specs.Occurrences.{HasCombLoop, AreMasks}
+use Rattle.hc_signal.specs.Tree.{Tree, graph}
 use Rattle.hc_signal.specs.Weight.{graph_weight}
 use Rattle.hc_canon.specs.declared.form.EntryId.{EntryId}
-use Rattle.hc_canon.specs.FormView.{FormView}
+use Rattle.hc_canon.specs.FormView.{FormView, IsCanonOf}
 use Rattle.hc_dbstate.specs.declared.hier.Hier.{Hier}
 use Rattle.hc_dbstate.specs.declared.hier.Hier.TheOpen.{Hier-F}
 use Rattle.hc_dbstate.specs.declared.hier.Hier.TheFolds.{fold-Hier}
-use Rattle.hc_dbstate.specs.Unfolding.{unfolding_of}
+use Rattle.hc_dbstate.specs.Unfolding.{AreDenoted, unfolding_of}
 
 -- what a call says of itself: its requested name, its entry, its masks and its sums
 pub record CallRow : Type 0 where
@@ -32,7 +34,7 @@ pub record HierView : Type 0 where
   pub levels : ℕ
 
 abbrev pub row_level : Hier-F HierView → CallRow
-row_level h = record { name = h.name; entry = h.entry; masks = h.paths.masks.items; instances = h.instances; weight = h.weight; words = h.words }
+row_level h = record { name = h.name; entry = h.entry; masks = h.paths.masks; instances = h.instances; weight = h.weight; words = h.words }
 
 abbrev pub call_level : Hier-F HierView → CallView
 call_level h = record { own = row_level h; kids = map (λ k. k.own) h.kids }
@@ -72,3 +74,20 @@ pub record IsCallOver (entries : List FormView) (call : CallView) : Type 0 where
 pub record IsElaboration (entries : List FormView) (h : Hier) : Type 0 where
   pub levels : (hier_view h).levels ≤ 64
   pub calls : (call : CallView) → Has (walk h) call → IsCallOver entries call
+
+-- the entries of calls
+abbrev pub entries_of : List CallRow → List EntryId
+entries_of rows = map (λ (k : CallRow). k.entry) rows
+
+-- A call made of a circuit and the calls of its instances: their entries denote these trees, with the ports that the
+-- instances have, and its own entry has the form of the circuit over them. Its sums are within the limits.
+pub record IsMade (entries : List FormView) (circuit : Graph) (trees : ℕ → Tree) (call : CallView) : Type 0 where
+  pub kids : AreDenoted entries (entries_of call.kids) trees
+  pub ports : (i : ℕ) (it : Instance) → slice_get circuit.instances i ≡ Some it → (graph (trees i)).ports ≡ it.ports
+  pub form : FormView
+  pub canon : IsCanonOf circuit (entries_of call.kids) form
+  pub found : slice_get entries call.own.entry.0 ≡ Some form
+  pub instances : call.own.instances ≡ 1 + sum_by (λ (k : CallRow). k.instances) call.kids
+  pub few : call.own.instances ≤ 65536
+  pub weight : graph_weight circuit + sum_by (λ (k : CallRow). k.weight) call.kids ≤ call.own.weight
+  pub light : call.own.weight ≤ 4194304

@@ -3,3 +3,4 @@ pub mod Insertion
 pub mod Places
 pub mod Unfolding
 pub mod Elaboration
+pub mod Uses

@@ -1,5 +1,7 @@
 -- The trees that entries stand for.
 use Rattle.std.specs.Prelude.{◌≡◌, ℕ, zero, suc, ◌<◌, List, length, slice_get, Option, Some, None}
+use Rattle.hc_signal.specs.declared.signal.Instance.{Instance}
+use Rattle.hc_signal.specs.Checked.{IsChecked}
 use Rattle.hc_signal.specs.Tree.{Tree, none, tree}
 use Rattle.hc_canon.specs.declared.form.EntryId.{EntryId}
 use Rattle.hc_canon.specs.FormView.{FormView}
@@ -35,3 +37,8 @@ Denotes entries id t = Same (unfolding_of entries id) t
 -- each of these entries is there, and denotes the tree with its number
 abbrev pub AreDenoted : List FormView → List EntryId → (ℕ → Tree) → Type 0
 AreDenoted entries ids trees = (i : ℕ) (id : EntryId) → slice_get ids i ≡ Some id → (id.0 < length entries) × Denotes entries id (trees i)
+
+-- Each graph is checked, and each instance has a tree.
+abbrev pub AreChecked : Tree → Type 0
+AreChecked none = ⊥
+AreChecked (tree g kids) = IsChecked g × ((i : ℕ) (it : Instance) → slice_get g.instances i ≡ Some it → AreChecked (kids i))

@@ -60,6 +60,13 @@ impl DbState {
         &self.entries[id.0]
     }
 
+    /// The turns in the order of the insertions.
+    pub fn turns(&self) -> &[Turn]
+        ensures { result.now ≡ self.now.turns }
+    {
+        self.turns.as_slice()
+    }
+
     /// The entries in the order of their places, and the turns in the order of the insertions.
     pub fn into_parts(self) -> (Vec<Form>, Vec<Turn>)
         ensures entries { result.0.items ≡ self.entries }

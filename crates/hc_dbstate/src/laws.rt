@@ -1,4 +1,4 @@
-ghost use Rattle.std.specs.Prelude.{◌≡◌, ◌↔◌, ◌<◌, ◌++◌, ℕ, List, [], Some, length, slice_get};
+ghost use Rattle.std.specs.Prelude.{◌≡◌, ◌↔◌, ◌<◌, ◌++◌, ℕ, List, [], Some, length, slice_get, true};
 ghost use Rattle.hc_canon.specs.declared.form.EntryId.{EntryId};
 ghost use Rattle.hc_canon.specs.FormView.{FormView, IsCanonOf};
 ghost use Rattle.hc_canon.specs.Same.{Same};
@@ -16,6 +16,11 @@ pub fn logs_name_entries()
     ensures many { (h : History) → IsLegal h → length (log h) ≡ length h.turns }
     ensures turns { (h : History) → IsLegal h → (k : ℕ) (t : Turn) → slice_get h.turns k ≡ Some t → (form : FormView) × (slice_get h.entries t.entry.0 ≡ Some form) × (slice_get (log h) k ≡ Some (entered t.entry t.fresh form)) }
     ensures forms { (h : History) (e : Entered) → IsLegal h → Has (log h) e → slice_get h.entries e.entry.0 ≡ Some e.form }
+{}
+
+/// Each entry of a legal history is named by the turn that it was new in.
+pub fn entries_are_named()
+    ensures { (h : History) (id : EntryId) → IsLegal h → id.0 < length h.entries → (t : Turn) × Has h.turns t × (t.fresh ≡ true) × (t.entry ≡ id) }
 {}
 
 /// The forms of the log of a legal history, inserted one after another into nothing, get the answers of the log and leave

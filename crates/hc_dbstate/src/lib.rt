@@ -2,15 +2,21 @@
 #![tactic(auto)]
 
 mod database;
+mod elaborations;
 mod hier;
 mod insert;
 mod laws;
 mod turns;
+mod used;
 
 pub use database::DbState;
+pub use elaborations::{
+    elaborations_stay, elaborations_unfold_whole, made_calls_are_lawful, used_entries_are_called,
+};
 pub use hier::{Hier, walks_are_whole};
 pub use laws::{
-    entries_grow_with_the_log, entries_keep_their_forms, entries_unfold_once, logs_name_entries, logs_replay,
-    made_forms_tell_trees_apart, unfoldings_are_of_kids,
+    entries_are_named, entries_grow_with_the_log, entries_keep_their_forms, entries_unfold_once,
+    logs_name_entries, logs_replay, made_forms_tell_trees_apart, unfoldings_are_of_kids,
 };
 pub use turns::{Entered, Turn};
+pub use used::{is_marked, used_entries};

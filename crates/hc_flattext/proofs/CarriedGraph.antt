@@ -14,7 +14,8 @@ use Rattle.hc_canon.specs.Same.{IsIsomorphism, Same}
 use Rattle.hc_canon.proofs.Renumbered.{then, number, ids_then, row_then, memory_then}
 use Rattle.hc_canon.proofs.Isomorphisms.{isomorphism_back, same-sym}
 use Rattle.hc_traces.proofs.FlatValues.{flat_at}
-use Rattle.hc_traces.proofs.Twins.{Partners, top, pairs_of}
+use Rattle.hc_trees.specs.Twins.{Partners, top}
+use Rattle.hc_trees.proofs.Twins.{pairs_of}
 use Rattle.hc_flattext.proofs.CarriedPaths.{Partner, PairedBelow, paired_below, partner, vertex_once, partners_back}
 use Rattle.hc_flattext.proofs.CarriedReach.{node_along, output_along, connection_along, instance_reached, flat_along, flat_node_along}
 

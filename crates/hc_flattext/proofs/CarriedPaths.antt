@@ -13,7 +13,8 @@ use Rattle.hc_canon.specs.Same.{IsIsomorphism, Same}
 use Rattle.hc_canon.proofs.Renumbered.{number, same_numbers}
 use Rattle.hc_canon.proofs.Isomorphisms.{isomorphism_back, reached_to}
 use Rattle.hc_traces.proofs.Settling.{whole_at}
-use Rattle.hc_traces.proofs.Twins.{Partners, top, below, SomePairs, pairs_of, same_at, pairing_once}
+use Rattle.hc_trees.specs.Twins.{Partners, top, below, SomePairs}
+use Rattle.hc_trees.proofs.Twins.{pairs_of, same_at, pairing_once}
 
 -- Whether a path is reached.
 is_instance : (p : Vertex) (i : ℕ) → (p ≡ inst i) ⊎ (p ≡ inst i → ⊥)

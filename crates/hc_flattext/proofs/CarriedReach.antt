@@ -16,7 +16,8 @@ use Rattle.hc_canon.specs.Same.{IsIsomorphism, Same}
 use Rattle.hc_canon.proofs.Isomorphisms.{fanin_paired, outputs_paired, reached_to}
 use Rattle.hc_paths.proofs.Composed.{reached_fanin}
 use Rattle.hc_traces.proofs.FlatValues.{flat_at}
-use Rattle.hc_traces.proofs.Twins.{Partners, top, below, connection_by, partner_reached}
+use Rattle.hc_trees.specs.Twins.{Partners, top, below}
+use Rattle.hc_trees.proofs.Twins.{connection_by, partner_reached}
 use Rattle.hc_flattext.proofs.CarriedPaths.{PairedBelow, paired_below}
 
 -- Nodes, outputs and connections along an isomorphism.

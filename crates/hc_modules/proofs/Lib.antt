@@ -1,6 +1,5 @@
-pub mod Marks
 pub mod Texts
-pub mod Called
+pub mod AllThere
 pub mod SamePaths
 pub mod Alike
 pub mod OneText

@@ -16,7 +16,6 @@ use Rattle.hc_dbstate.specs.Elaboration.{CallView, IsElaboration, hier_view, wal
 use Rattle.hc_dbstate.specs.History.{History, IsLegal}
 use Rattle.hc_dbstate.specs.Unfolding.{unfolding_of}
 use Rattle.hc_dbstate.proofs.Denoted.{unfoldings_once}
-use Rattle.hc_dbstate.proofs.Walks.{ends_itself, has_kids}
 use Rattle.hc_names.specs.Mangling.{IsMangled}
 use Rattle.hc_names.specs.NameRows.{name_of_entry}
 use Rattle.hc_names.specs.Naming.{Given, NamedTree, NameRow, IsNameAfter, AreNamesAfter, AreNameRows, named_tree, named_trees, is_among, first_rows}
@@ -24,7 +23,6 @@ use Rattle.hc_names.proofs.Members.{has_map, has_left, has_right}
 use Rattle.hc_modules.specs.HierarchyText.{IsEntryText, AreTexts, IsHierarchyText}
 use Rattle.hc_modules.specs.VerilogText.{IsFirst, IsNameOf, IsCallText, AreModules, IsVerilog}
 use Rattle.hc_modules.proofs.Alike.{Named, names_given, given_more, one_more}
-use Rattle.hc_modules.proofs.Called.{top_within}
 use Rattle.hc_modules.proofs.FirstPlaces.{first_after, not_first_after, among_first, among_later, among_cases, name_has_row, first_rows_among, row_call}
 use Rattle.hc_modules.proofs.Reaching.{reached_kid, kid_unfolds, graph_unfolds, uses_reaches, reaches_used}
 use Rattle.hc_modules.proofs.SamePaths.{isomorphism_same}
@@ -177,13 +175,13 @@ module _ (h : History) (legal : IsLegal h) (hier : Hier) (names : List (List ℕ
           printed c cs n ns given seen all (inside c first) (name_new h legal given seen s c (inside c first) n a.0 e)
           (rest (c.own.entry ∷ seen) (seen_new h.entries (length h.entries) given seen (named_tree h.entries c) c.own.entry n (inside c first) refl s)) texts x
 
-pub text_of_trees : (h : History) (hier : Hier) (rows : List NameRow) (text : List ℕ) → IsLegal h → IsElaboration h.entries hier → AreNameRows h.entries hier rows → IsHierarchyText h.entries (hier_view hier).own.entry rows text
+pub text_of_trees : (h : History) (hier : Hier) (rows : List NameRow) (text : List ℕ) → (hier_view hier).own.entry.0 < length h.entries → IsLegal h → IsElaboration h.entries hier → AreNameRows h.entries hier rows → IsHierarchyText h.entries (hier_view hier).own.entry rows text
     → IsVerilog (unfolding_of h.entries (hier_view hier).own.entry) (named_trees h.entries hier) text
-text_of_trees h hier rows text legal over are x = record {
+text_of_trees h hier rows text within legal over are x = record {
   names = are.names;
   right = are.right;
   texts = x.texts;
-  modules = modules_on h legal hier are.names rows are.first (hier_view hier).own.entry (top_within h.entries hier over (ends_itself hier) (has_kids hier)) (walk hier) are.names [] [] inside refl none are.right x.texts
+  modules = modules_on h legal hier are.names rows are.first (hier_view hier).own.entry within (walk hier) are.names [] [] inside refl none are.right x.texts
       (subst (λ (l : List NameRow). AreTexts h.entries (hier_view hier).own.entry rows l x.texts) are.first x.modules);
   text_is = x.text_is;
 }

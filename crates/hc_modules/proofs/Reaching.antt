@@ -18,7 +18,7 @@ use Rattle.hc_dbstate.specs.Unfolding.{kid_tree, unfolding_of}
 use Rattle.hc_dbstate.proofs.Triples.{some_at}
 use Rattle.hc_dbstate.proofs.Unfolded.{kid_below, unfolded, unfolds}
 use Rattle.hc_dbstate.proofs.Denoted.{unfoldings_once}
-use Rattle.hc_modules.specs.Uses.{Uses, itself, kid}
+use Rattle.hc_dbstate.specs.Uses.{Uses, itself, kid}
 use Rattle.hc_modules.specs.VerilogText.{TopReaches}
 
 module _ (h : History) (legal : IsLegal h) where

@@ -8,7 +8,7 @@ use Rattle.std.proofs.lemmas.List.{drop_more}
 use Rattle.hc_canon.specs.declared.form.EntryId.{EntryId}
 use Rattle.hc_canon.specs.FormView.{FormView}
 use Rattle.hc_names.specs.Naming.{NameRow}
-use Rattle.hc_modules.specs.Uses.{Uses}
+use Rattle.hc_dbstate.specs.Uses.{Uses}
 use Rattle.hc_modules.specs.HierarchyText.{AreTexts, IsHierarchyText}
 use Rattle.hc_modules.specs.Pieces.{is_empty, parted, Appends, IsPrinted}
 

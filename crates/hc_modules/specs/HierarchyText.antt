@@ -5,7 +5,7 @@ use Rattle.hc_canon.specs.declared.form.EntryId.{EntryId}
 use Rattle.hc_canon.specs.FormView.{FormView}
 use Rattle.hc_names.specs.Naming.{NameRow}
 use Rattle.hc_verilog.specs.ModuleText.{IsFormText}
-use Rattle.hc_modules.specs.Uses.{Uses}
+use Rattle.hc_dbstate.specs.Uses.{Uses}
 
 -- the module of an entry, under the name in its row
 pub record IsEntryText (entries : List FormView) (rows : List NameRow) (row : NameRow) (text : List ℕ) : Type 0 where

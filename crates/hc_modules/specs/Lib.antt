@@ -1,4 +1,3 @@
-pub mod Uses
 pub mod HierarchyText
 pub mod Pieces
 pub mod VerilogText

@@ -6,7 +6,7 @@ use Rattle.hc_canon.specs.FormView.{FormView}
 use Rattle.hc_names.specs.Naming.{NameRow}
 use Rattle.hc_verilog.specs.ModuleText.{AreNamed, IsFormText}
 use Rattle.hc_modules.specs.HierarchyText.{AreTexts}
-use Rattle.hc_modules.specs.Uses.{Uses}
+use Rattle.hc_dbstate.specs.Uses.{Uses}
 
 -- the text, after an empty line where it is not the first
 abbrev pub parted : Bool → List ℕ → List ℕ

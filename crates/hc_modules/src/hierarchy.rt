@@ -3,14 +3,13 @@ ghost use Rattle.std.specs.Prelude.{◌+◌, ◌<◌, IfOk, IsSome, OnOk, length
 ghost use Rattle.hc_dbstate.specs.Elaboration.{CallView, IsElaboration, hier_view, walk};
 ghost use Rattle.hc_modules.specs.HierarchyText.{IsHierarchyText};
 ghost use Rattle.hc_modules.specs.Pieces.{Appends, AreThere, IsPrinted};
-ghost use Rattle.hc_modules.specs.Uses.{AreUses};
+ghost use Rattle.hc_dbstate.specs.Uses.{AreUses};
 ghost use Rattle.hc_names.specs.NameRows.{name_of_entry};
 ghost use Rattle.hc_signal.specs.Member.{Has};
 ghost use Rattle.hc_verilog.specs.ModuleText.{AreNamed};
 
-use crate::used::{is_marked, used_entries};
 use hc_canon::{EntryId, Form};
-use hc_dbstate::{DbState, Hier, walks_are_whole};
+use hc_dbstate::{DbState, Hier, is_marked, used_entries, used_entries_are_called};
 use hc_fault::{Name, NoMemory};
 use hc_names::Names;
 use hc_verilog::module_text;
@@ -90,7 +89,7 @@ pub fn verilog(alloc: Global, db: &DbState, hier: &Hier, names: &Names) -> Resul
     requires named { (call : CallView) → Has (walk hier.now) call → IsSome (name_of_entry names.now call.own.entry) }
     ensures { IfOk result (λ text. IsHierarchyText db.now.entries (hier_view hier.now).own.entry names.now text.items) }
 {
-    walks_are_whole();
+    used_entries_are_called();
     let used = used_entries(alloc, db, hier.entry)?;
     text_of(alloc, db, names, &used, hier.entry)
 }

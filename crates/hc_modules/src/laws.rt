@@ -10,11 +10,15 @@ ghost use Rattle.hc_modules.specs.VerilogText.{AreAlike, IsVerilog};
 ghost use Rattle.hc_names.specs.Naming.{AreNameRows, NamedTree, NameRow, named_trees};
 ghost use Rattle.hc_signal.specs.Tree.{Tree};
 
+use hc_dbstate::used_entries_are_called;
+
 /// The text of a hierarchy over the entries of a legal history is the Verilog of their unfoldings.
 pub fn texts_are_of_trees()
     ensures { (h : History) (hier : Hier) (rows : List NameRow) (text : List ℕ) → IsLegal h → IsElaboration h.entries hier → AreNameRows h.entries hier rows
         → IsHierarchyText h.entries (hier_view hier).own.entry rows text → IsVerilog (unfolding_of h.entries (hier_view hier).own.entry) (named_trees h.entries hier) text }
-{}
+{
+    used_entries_are_called();
+}
 
 /// Calls that request the same names for trees that are the same, below tops that are the same, have one text.
 pub fn alike_calls_have_one_text()

@@ -3,8 +3,6 @@
 
 mod hierarchy;
 mod laws;
-mod used;
 
 pub use hierarchy::verilog;
 pub use laws::{alike_calls_have_one_text, texts_are_of_trees, texts_are_single};
-pub use used::used_entries;

@@ -78,7 +78,7 @@ fn mask_at(kids: &[Paths], inst: InstId, port: u32) -> Option<u128>
     ensures { result ≡ mask_at (masks_of kids.now) inst.0 port }
 {
     let kid = kids.get(inst.0 as usize)?;
-    kid.masks.get(port as usize).copied()
+    kid.masks.as_slice().get(port as usize).copied()
 }
 
 /// Adds the connections that an output of an instance depends on.

@@ -1,11 +1,11 @@
 //! What the calls of this crate answer.
-use hc_fault::NoMemory;
+use hc_fault::{ItemList, NoMemory};
 
 /// What the outputs of a circuit depend on in the same cycle: one mask for each output, in order. Bit `i` of a mask is 1
 /// exactly where a path without a register and without a write port leads from the output to input `i`.
 #[derive(Drop)]
 pub struct Paths {
-    pub masks: Vec<u128>,
+    pub masks: ItemList<u128>,
 }
 
 /// Why there are no paths or no schedule.

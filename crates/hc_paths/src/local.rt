@@ -9,12 +9,12 @@ use crate::masks::{fill, masks_at};
 use crate::pile::Pile;
 use crate::reached::reached;
 use crate::search::order;
-use hc_fault::NoMemory;
+use hc_fault::{ItemList, NoMemory};
 use hc_signal::{Circuit, NodeId};
 use std::alloc::Global;
 
 /// An order of the nodes that the outputs reach, the last node first.
-pub fn local_order(
+pub fn order_backwards(
     alloc: Global,
     circuit: &Circuit,
     kids: &[Paths],
@@ -37,22 +37,24 @@ fn masks_along(
 ) -> Result<Paths, NoMemory>
     requires inputs { length circuit.now.ports.inputs ≤ 128 }
     requires order { IsLocalOrder circuit.now (masks_of kids.now) (reverse order.now) }
-    ensures { IfOk result (λ paths. AreLocalMasks circuit.now (masks_of kids.now) paths.masks.items) }
+    ensures { IfOk result (λ paths. AreLocalMasks circuit.now (masks_of kids.now) paths.masks) }
 {
     circuit.lawful();
     let masks = fill(alloc, circuit, kids, order)?;
     let list = masks_at(alloc, masks.as_slice(), circuit.outputs())?;
-    Ok(Paths { masks: list })
+    Ok(Paths {
+        masks: ItemList::from_vec(list),
+    })
 }
 
 /// The masks of the outputs, or a closed path.
 pub fn local_paths(alloc: Global, circuit: &Circuit, kids: &[Paths]) -> Result<Paths, PathStop>
     requires { length circuit.now.ports.inputs ≤ 128 }
-    ensures masks { IfOk result (λ paths. AreLocalMasks circuit.now (masks_of kids.now) paths.masks.items) }
+    ensures masks { IfOk result (λ paths. AreLocalMasks circuit.now (masks_of kids.now) paths.masks) }
     ensures free { OnOk result (¬ HasLocalLoop circuit.now (masks_of kids.now)) }
     ensures cycle { IfErr result (λ stop. stop ≡ PathStop.Loop → HasLocalLoop circuit.now (masks_of kids.now)) }
 {
-    let order = local_order(alloc, circuit, kids)?.into_vec();
+    let order = order_backwards(alloc, circuit, kids)?.into_vec();
     let paths = masks_along(alloc, circuit, kids, order.as_slice())?;
     Ok(paths)
 }

@@ -21,7 +21,7 @@ use Rattle.hc_bench.specs.Simulation.{State, IsInitialState, IsStateOf, IsMemory
 use Rattle.hc_bench.specs.Listing.{CycleRow}
 use Rattle.hc_bench.specs.Trace.{Trace, stop, set, start, past, cycle, IsCycle}
 use Rattle.hc_paths.proofs.Composed.{reached_fanin}
-use Rattle.hc_traces.proofs.Twins.{Partners, top, Twin, SomePairs, pairs_of, loop_of_same, twin_node, twin_is_reached, partners_reached, partner_reached}
+use Rattle.hc_trees.specs.Twins.{Partners, top, Twin, SomePairs, HavePartners}
 use Rattle.hc_canon.proofs.Isomorphisms.{reached_to, same-sym}
 use Rattle.hc_walk.proofs.InRange.{HasRow}
 use Rattle.hc_traces.proofs.Settling.{row_in, whole_at, some_settled}
@@ -130,16 +130,16 @@ pub map_each : (f g : ℕ × ℕ → ℕ) (xs : List (ℕ × ℕ)) → ((x : ℕ
 map_each f g [] h = refl
 map_each f g (x ∷ xs) h = ap₂ (λ a b. a ∷ b) (h x) (map_each f g xs h)
 
-module _ (s t : Tree) (whole : IsWhole s) (v w : Occurrence → ℕ) (twins : (p : List ℕ) (n : ℕ) (q : List ℕ) (m : ℕ) → IsReachedPath s p → Twin s t p n q m → v (record { path = p; node = n }) ≡ w (record { path = q; node = m }))
+module _ (laws : HavePartners) (s t : Tree) (whole : IsWhole s) (v w : Occurrence → ℕ) (twins : (p : List ℕ) (n : ℕ) (q : List ℕ) (m : ℕ) → IsReachedPath s p → Twin s t p n q m → v (record { path = p; node = n }) ≡ w (record { path = q; node = m }))
     (st su : State) (ss : IsStateOf s st) (ts : IsStateOf t su) (same : StatesAgree s t st su) where
   register_edge : (p : List ℕ) (n : ℕ) (q : List ℕ) (m : ℕ) (next : NodeId) (enable : Option NodeId) (clear : Option (NodeId × BitVector)) (init : BitVector) → NodeIs s p n (Reg next enable clear init) → Twin s t p n q m
       → look_up 0 (clock_edge s v st).registers (record { path = p; node = n }) ≡ look_up 0 (clock_edge t w su).registers (record { path = q; node = m })
   register_edge p n q m next enable clear init y tw =
-      let r : IsReachedPath s p = partners_reached s t tw.paths in
-      let z : NodeIs t q m (node_by tw.to (Reg next enable clear init)) = twin_node s t (Reg next enable clear init) tw y in
+      let r : IsReachedPath s p = laws.first_path s t tw.paths in
+      let z : NodeIs t q m (node_by tw.to (Reg next enable clear init)) = laws.row s t (Reg next enable clear init) tw y in
       let a : (x : ℕ) × Has st.registers (record { path = p; node = n }, x) = (ss.registers (record { path = p; node = n })).0 (y.0, next, enable, clear, init, (r, tw.reached), y.1, y.2) in
       let b : (x : ℕ) × Has su.registers (record { path = q; node = m }, x) =
-      (ts.registers (record { path = q; node = m })).0 (z.0, id_by tw.to next, option_map (id_by tw.to) enable, option_map (clear_by tw.to) clear, init, twin_is_reached s t tw, z.1, z.2) in
+      (ts.registers (record { path = q; node = m })).0 (z.0, id_by tw.to next, option_map (id_by tw.to) enable, option_map (clear_by tw.to) clear, init, laws.twin_reached s t tw, z.1, z.2) in
       held_number s v st (record { path = p; node = n }) a.0 a.1
       ∙ ap (number_after v p (look_up 0 st.registers (record { path = p; node = n }))) y.1
       ∙ ap (λ x. next_value v p x (look_up 0 st.registers (record { path = p; node = n }))) y.2
@@ -151,12 +151,12 @@ module _ (s t : Tree) (whole : IsWhole s) (v w : Occurrence → ℕ) (twins : (p
   memory_edge : (p q : List ℕ) (to back : Renumbering) (k : ℕ) → Partners s t p q → IsIsomorphism to back (graph_at s p) (graph_at t q) → Reached (graph_at s p) (mem k)
       → look_up [] (clock_edge s v st).memories (record { path = p; node = k }) ≡ look_up [] (clock_edge t w su).memories (record { path = q; node = to.mem k })
   memory_edge p q to back k u e c =
-      let r : IsReachedPath s p = partners_reached s t u in
+      let r : IsReachedPath s p = laws.first_path s t u in
       let x : HasRow (graph_at s p) (mem k) = row_in (tree_at s p) (whole_at s whole p r) c in
       let z : slice_get (graph_at t q).memories (to.mem k) ≡ Some (memory_by to x.0) = e.memories k c ∙ ap (option_map (memory_by to)) x.1 in
       let a : (ws : List ℕ) × Has st.memories (record { path = p; node = k }, ws) × (length ws ≡ x.0.size) = (ss.memories (record { path = p; node = k }) x.0.size).0 (x.0, r, c, x.1, refl) in
       let b : (ws : List ℕ) × Has su.memories (record { path = q; node = to.mem k }, ws) × (length ws ≡ x.0.size) =
-      (ts.memories (record { path = q; node = to.mem k }) x.0.size).0 (memory_by to x.0, partner_reached s t u, reached_to to back (graph_at s p) (graph_at t q) e c, z, refl) in
+      (ts.memories (record { path = q; node = to.mem k }) x.0.size).0 (memory_by to x.0, laws.second_path s t u, reached_to to back (graph_at s p) (graph_at t q) e c, z, refl) in
       held_words s v st (record { path = p; node = k }) a.0 a.1
       ∙ ap (words_after v p (look_up [] st.memories (record { path = p; node = k }))) x.1
       ∙ map_each (λ (i : ℕ × ℕ). word_after v p x.0.writes i.0 i.1) (λ (i : ℕ × ℕ). word_after w q (map (write_by to) x.0.writes) i.0 i.1) (enumerate_from 0 (look_up [] st.memories (record { path = p; node = k })))
@@ -180,15 +180,15 @@ first_by (Some row) = first_of row.node
 pub held_first : (t : Tree) (state : State) (k : Occurrence) (x : ℕ) → Has state.registers (k, x) → look_up 0 (reset t state).registers k ≡ first_by (row_at t k)
 held_first t state k x h = held_changed 0 (λ s old. (initial_register t (s, old)).1) state.registers k x h
 
-module _ (s t : Tree) (st su : State) (ss : IsStateOf s st) (ts : IsStateOf t su) (same : StatesAgree s t st su) where
+module _ (laws : HavePartners) (s t : Tree) (st su : State) (ss : IsStateOf s st) (ts : IsStateOf t su) (same : StatesAgree s t st su) where
   register_reset : (p : List ℕ) (n : ℕ) (q : List ℕ) (m : ℕ) (next : NodeId) (enable : Option NodeId) (clear : Option (NodeId × BitVector)) (init : BitVector) → NodeIs s p n (Reg next enable clear init) → Twin s t p n q m
       → look_up 0 (reset s st).registers (record { path = p; node = n }) ≡ look_up 0 (reset t su).registers (record { path = q; node = m })
   register_reset p n q m next enable clear init y tw =
-      let r : IsReachedPath s p = partners_reached s t tw.paths in
-      let z : NodeIs t q m (node_by tw.to (Reg next enable clear init)) = twin_node s t (Reg next enable clear init) tw y in
+      let r : IsReachedPath s p = laws.first_path s t tw.paths in
+      let z : NodeIs t q m (node_by tw.to (Reg next enable clear init)) = laws.row s t (Reg next enable clear init) tw y in
       let a : (x : ℕ) × Has st.registers (record { path = p; node = n }, x) = (ss.registers (record { path = p; node = n })).0 (y.0, next, enable, clear, init, (r, tw.reached), y.1, y.2) in
       let b : (x : ℕ) × Has su.registers (record { path = q; node = m }, x) =
-      (ts.registers (record { path = q; node = m })).0 (z.0, id_by tw.to next, option_map (id_by tw.to) enable, option_map (clear_by tw.to) clear, init, twin_is_reached s t tw, z.1, z.2) in
+      (ts.registers (record { path = q; node = m })).0 (z.0, id_by tw.to next, option_map (id_by tw.to) enable, option_map (clear_by tw.to) clear, init, laws.twin_reached s t tw, z.1, z.2) in
       held_first s st (record { path = p; node = n }) a.0 a.1 ∙ ap first_by y.1 ∙ ap first_of y.2
       ∙ sym (held_first t su (record { path = q; node = m }) b.0 b.1 ∙ ap first_by z.1 ∙ ap first_of z.2)
 
@@ -196,27 +196,24 @@ module _ (s t : Tree) (st su : State) (ss : IsStateOf s st) (ts : IsStateOf t su
   agree_reset = record { registers = register_reset; memories = same.memories }
 
 -- The same rows.
-module _ (s t : Tree) (e : Same s t) (whole : IsWhole s) (other : IsWhole t) (free : ¬ HasCombLoop s) where
-  free_too : ¬ HasCombLoop t
-  free_too x = free (loop_of_same t s (same-sym s t e) x)
-
+module _ (laws : HavePartners) (s t : Tree) (e : Same s t) (whole : IsWhole s) (other : IsWhole t) (free : ¬ HasCombLoop s) (free_too : ¬ HasCombLoop t) where
   outputs_same : (v w : Occurrence → ℕ) → ((p : List ℕ) (n : ℕ) (q : List ℕ) (m : ℕ) → IsReachedPath s p → Twin s t p n q m → v (record { path = p; node = n }) ≡ w (record { path = q; node = m })) → outputs_of s v ≡ outputs_of t w
   outputs_same v w twins =
-      let z : SomePairs (graph s) (graph t) = pairs_of s t e in
+      let z : SomePairs (graph s) (graph t) = laws.graphs s t e in
       outputs_twin s t v w twins z.0 z.1 top z.2 (graph s).outputs (λ id h. output (node id.0) (has_map node_of h)) ∙ ap (map (value_at w [])) (sym z.2.outputs)
 
   pub trace_of_same : {st : State} {ins : List ℕ} {count : ℕ} {steps : List Step} {rows : List CycleRow} (su : State) → IsStateOf s st → IsStateOf t su → StatesAgree s t st su → Trace s st ins count steps rows → Trace t su ins count steps rows
   trace_of_same su ss ts a stop = stop
   trace_of_same su ss ts a (set p x) = set p (trace_of_same su ss ts a x)
-  trace_of_same {st = st} su ss ts a (start x) = start (trace_of_same (reset t su) (reset_state s st ss) (reset_state t su ts) (agree_reset s t st su ss ts a) x)
+  trace_of_same {st = st} su ss ts a (start x) = start (trace_of_same (reset t su) (reset_state s st ss) (reset_state t su ts) (agree_reset laws s t st su ss ts a) x)
   trace_of_same su ss ts a (past x) = past (trace_of_same su ss ts a x)
   trace_of_same {st = st} {ins = ins} {count = n} su ss ts a (cycle {next = nx} {before = bf} {after = af} {times = times} {steps = steps} {rows = rows} y x) =
       let again : IsSettled s (clock_edge s y.v st) ins y.w = subst (λ z. IsSettled s z ins y.w) y.edge y.settled_again in
       let vt : (u : Occurrence → ℕ) × IsSettled t su ins u = some_settled t other free_too su ins in
-      let tv : _ = settled_twins s t e whole free st su a ins y.v vt.0 y.settled vt.1 in
-      let b : StatesAgree s t (clock_edge s y.v st) (clock_edge t vt.0 su) = agree_edge s t whole y.v vt.0 (λ p n q m r z. tv p n q m r z) st su ss ts a in
+      let tv : _ = settled_twins laws s t e whole free st su a ins y.v vt.0 y.settled vt.1 in
+      let b : StatesAgree s t (clock_edge s y.v st) (clock_edge t vt.0 su) = agree_edge laws s t whole y.v vt.0 (λ p n q m r z. tv p n q m r z) st su ss ts a in
       let wt : (u : Occurrence → ℕ) × IsSettled t (clock_edge t vt.0 su) ins u = some_settled t other free_too (clock_edge t vt.0 su) ins in
-      let tw : _ = settled_twins s t e whole free (clock_edge s y.v st) (clock_edge t vt.0 su) b ins y.w wt.0 again wt.1 in
+      let tw : _ = settled_twins laws s t e whole free (clock_edge s y.v st) (clock_edge t vt.0 su) b ins y.w wt.0 again wt.1 in
       let here : IsCycle t su ins (clock_edge t vt.0 su) bf af = record { v = vt.0; w = wt.0; settled = vt.1; edge = refl; settled_again = wt.1; before_is = y.before_is ∙ outputs_same y.v vt.0 (λ p n q m r z. tv p n q m r z); after_is = y.after_is ∙ outputs_same y.w wt.0 (λ p n q m r z. tw p n q m r z) } in
       cycle here (trace_of_same (clock_edge t vt.0 su) (subst (IsStateOf s) (sym y.edge) (edge_state s y.v st ss)) (edge_state t vt.0 su ts) (subst (λ z. StatesAgree s t z (clock_edge t vt.0 su)) (sym y.edge) b) x)
 
@@ -242,28 +239,29 @@ opening_words t state o k m r c q =
     let l : m.size ≡ b.0.size = ap (λ z. (unwrap_or z m).size) (sym q ∙ b.3) in
     o.words k (look_up [] state.memories k) h ∙ ap (λ n. replicate n 0) (sym b.4 ∙ sym l)
 
-module _ (s t : Tree) (whole : IsWhole s) (st su : State) (os : IsInitialState s st) (ot : IsInitialState t su) where
+module _ (laws : HavePartners) (s t : Tree) (whole : IsWhole s) (st su : State) (os : IsInitialState s st) (ot : IsInitialState t su) where
   register_opening : (p : List ℕ) (n : ℕ) (q : List ℕ) (m : ℕ) (next : NodeId) (enable : Option NodeId) (clear : Option (NodeId × BitVector)) (init : BitVector) → NodeIs s p n (Reg next enable clear init) → Twin s t p n q m
       → look_up 0 st.registers (record { path = p; node = n }) ≡ look_up 0 su.registers (record { path = q; node = m })
   register_opening p n q m next enable clear init y tw =
-      let r : IsReachedPath s p = partners_reached s t tw.paths in
-      let z : NodeIs t q m (node_by tw.to (Reg next enable clear init)) = twin_node s t (Reg next enable clear init) tw y in
+      let r : IsReachedPath s p = laws.first_path s t tw.paths in
+      let z : NodeIs t q m (node_by tw.to (Reg next enable clear init)) = laws.row s t (Reg next enable clear init) tw y in
       let a : (x : ℕ) × Has st.registers (record { path = p; node = n }, x) = (os.whole.registers (record { path = p; node = n })).0 (y.0, next, enable, clear, init, (r, tw.reached), y.1, y.2) in
       let b : (x : ℕ) × Has su.registers (record { path = q; node = m }, x) =
-      (ot.whole.registers (record { path = q; node = m })).0 (z.0, id_by tw.to next, option_map (id_by tw.to) enable, option_map (clear_by tw.to) clear, init, twin_is_reached s t tw, z.1, z.2) in
+      (ot.whole.registers (record { path = q; node = m })).0 (z.0, id_by tw.to next, option_map (id_by tw.to) enable, option_map (clear_by tw.to) clear, init, laws.twin_reached s t tw, z.1, z.2) in
       opening_number s st os (record { path = p; node = n }) a.0 a.1 ∙ ap first_by y.1 ∙ ap first_of y.2
       ∙ sym (opening_number t su ot (record { path = q; node = m }) b.0 b.1 ∙ ap first_by z.1 ∙ ap first_of z.2)
 
   memory_opening : (p q : List ℕ) (to back : Renumbering) (k : ℕ) → Partners s t p q → IsIsomorphism to back (graph_at s p) (graph_at t q) → Reached (graph_at s p) (mem k)
       → look_up [] st.memories (record { path = p; node = k }) ≡ look_up [] su.memories (record { path = q; node = to.mem k })
   memory_opening p q to back k u e c =
-      let r : IsReachedPath s p = partners_reached s t u in
+      let r : IsReachedPath s p = laws.first_path s t u in
       let x : HasRow (graph_at s p) (mem k) = row_in (tree_at s p) (whole_at s whole p r) c in
       opening_words s st os (record { path = p; node = k }) x.0 r c x.1
-      ∙ sym (opening_words t su ot (record { path = q; node = to.mem k }) (memory_by to x.0) (partner_reached s t u) (reached_to to back (graph_at s p) (graph_at t q) e c) (e.memories k c ∙ ap (option_map (memory_by to)) x.1))
+      ∙ sym (opening_words t su ot (record { path = q; node = to.mem k }) (memory_by to x.0) (laws.second_path s t u) (reached_to to back (graph_at s p) (graph_at t q) e c) (e.memories k c ∙ ap (option_map (memory_by to)) x.1))
 
   pub agree_opening : StatesAgree s t st su
   agree_opening = record { registers = register_opening; memories = memory_opening }
 
-pub runs_of_same : (s t : Tree) → Same s t → IsWhole s → IsWhole t → ¬ HasCombLoop s → (st su : State) → IsInitialState s st → IsInitialState t su → (inputs : List ℕ) (count : ℕ) (steps : List Step) (rows : List CycleRow) → Trace s st inputs count steps rows → Trace t su inputs count steps rows
-runs_of_same s t e whole other free st su os ot inputs count steps rows x = trace_of_same s t e whole other free su os.whole ot.whole (agree_opening s t whole st su os ot) x
+-- trees that are the same run alike from their initial states
+pub runs_of_same : HavePartners → (s t : Tree) → Same s t → IsWhole s → IsWhole t → ¬ HasCombLoop s → ¬ HasCombLoop t → (st su : State) → IsInitialState s st → IsInitialState t su → (inputs : List ℕ) (count : ℕ) (steps : List Step) (rows : List CycleRow) → Trace s st inputs count steps rows → Trace t su inputs count steps rows
+runs_of_same laws s t e whole other free free_too st su os ot inputs count steps rows x = trace_of_same laws s t e whole other free free_too su os.whole ot.whole (agree_opening laws s t whole st su os ot) x

@@ -3,7 +3,7 @@ use Rattle.std.proofs.Common.{◌≡◌, ℕ, zero, suc, List, [], ◌∷◌, ma
 use Rattle.std.proofs.lemmas.Option.{slice_get-map}
 use Rattle.std.specs.Prelude.{slice_get, slice_index, Option, Some, None, option_map}
 use Rattle.hc_signal.specs.Member.{Has, first, later}
-use Rattle.hc_walk.proofs.Members.{has_map, has_slice}
+use Rattle.hc_walk.proofs.Members.{has_map}
 use Rattle.hc_signal.specs.declared.signal.NodeId.{NodeId}
 use Rattle.hc_signal.specs.declared.signal.NodeRow.{NodeRow}
 use Rattle.hc_signal.specs.declared.signal.Node.{Node}
@@ -15,29 +15,12 @@ use Rattle.hc_signal.specs.Graph.{node, mem, inst, Reached, output, fanin}
 use Rattle.hc_signal.specs.Tree.{Tree, graph, IsWhole}
 use Rattle.hc_signal.specs.Renumber.{Renumbering, id_by, node_by, row_by}
 use Rattle.hc_canon.specs.Same.{IsIsomorphism, Same}
-use Rattle.hc_signal.specs.Occurrences.{Occurrence, tree_at, graph_at, NodeIs, IsReachedPath, comb_fanin, connection, CombStep, inside, down, up, CombPath, HasCombLoop, DependsOn}
+use Rattle.hc_signal.specs.Occurrences.{Occurrence, tree_at, graph_at, NodeIs, IsReachedPath, comb_fanin, connection, CombStep, inside, down, up, HasCombLoop}
 use Rattle.hc_bench.specs.Simulation.{State, value, input_value, value_at, optional_value, vector_at, width_of, look_up, IsSettled}
 use Rattle.hc_paths.proofs.Composed.{reached_fanin}
 use Rattle.hc_walk.proofs.InRange.{HasRow}
 use Rattle.hc_traces.proofs.Settling.{row_in, whole_at, Deep, deep_none, deep_next, deep_start, occurrences}
-use Rattle.hc_traces.proofs.Twins.{Partners, top, below, Twin, SomePairs, LastTwin, pairs_of, twin_node, twin_leads, twin_reached, twin_is_reached, connection_by, same_at, same_kid}
-
-top_only : (s t : Tree) {q : List ℕ} → Partners s t [] q → q ≡ []
-top_only s t top = refl
-
-pub depends_of_same : (s t : Tree) → Same s t → (port input : ℕ) → DependsOn s port input → DependsOn t port input
-depends_of_same s t e port input d =
-    let z : SomePairs (graph s) (graph t) = pairs_of s t e in
-    let o : Reached (graph s) (node d.0) = output (node d.0) (has_map (λ (x : NodeId). node x.0) (has_slice (graph s).outputs port (record { 0 = d.0 }) d.2)) in
-    let w : Twin s t [] d.0 [] (z.0.node d.0) = record { paths = top; to = z.0; back = z.1; pairs = z.2; reached = o; goes = refl } in
-    let l : LastTwin s t [] d.1 [] (z.0.node d.0) = twin_leads s t e w d.4 in
-    let r : l.0 ≡ [] = top_only s t l.2.paths in (
-      z.0.node d.0,
-      l.1,
-      ap (λ x. slice_get x port) z.2.outputs ∙ slice_get-map (id_by z.0) (graph s).outputs port ∙ ap (option_map (id_by z.0)) d.2,
-      subst (λ q. NodeIs t q l.1 (Input input)) r (twin_node s t (Input input) l.2 d.3),
-      subst (λ q. CombPath t [] (z.0.node d.0) q l.1) r l.3,
-    )
+use Rattle.hc_trees.specs.Twins.{Partners, top, below, Twin, SomePairs, HavePartners}
 
 -- the width at a twin
 width_by : (r : Renumbering) (o : Option NodeRow) → width_of (option_map (row_by r) o) ≡ width_of o
@@ -57,27 +40,27 @@ may_value_by r v w p q (Some id) h = h id refl
 abbrev NeedsAgree : Tree → Tree → (Occurrence → ℕ) → (Occurrence → ℕ) → List ℕ → ℕ → Type 0
 NeedsAgree s t v w p n = (r : List ℕ) (k : ℕ) (u : List ℕ) (l : ℕ) → CombStep s p n r k → Twin s t r k u l → v (record { path = r; node = k }) ≡ w (record { path = u; node = l })
 
-input_twin : (s t : Tree) (ins : List ℕ) (v w : Occurrence → ℕ) (p : List ℕ) (n : ℕ) (q : List ℕ) (port : ℕ) → Partners s t p q → NodeIs s p n (Input port) → NeedsAgree s t v w p n
+input_twin : (laws : HavePartners) (s t : Tree) (ins : List ℕ) (v w : Occurrence → ℕ) (p : List ℕ) (n : ℕ) (q : List ℕ) (port : ℕ) → Partners s t p q → NodeIs s p n (Input port) → NeedsAgree s t v w p n
     → ((r : List ℕ) (k : ℕ) → CombStep s p n r k → Reached (graph_at s r) (node k)) → input_value s ins v p port ≡ input_value t ins w q port
-input_twin s t ins v w [] n _ port top y a c = refl
-input_twin s t ins v w (i ∷ p) n _ port (below {q = q} {j = j} to back u x r l) y a c =
+input_twin laws s t ins v w [] n _ port top y a c = refl
+input_twin laws s t ins v w (i ∷ p) n _ port (below {q = q} {j = j} to back u x r l) y a c =
     may_value_by to v w p q (connection (graph_at s p) i port)
     (λ id o. a p id.0 q (to.node id.0) (up port y o) (record { paths = u; to = to; back = back; pairs = x; reached = c p id.0 (up port y o); goes = refl }))
-    ∙ ap (optional_value w q) (sym (ap (λ b. connection (graph_at t q) b port) (sym l) ∙ connection_by (graph_at s p) (graph_at t q) to back x i port r))
+    ∙ ap (optional_value w q) (sym (ap (λ b. connection (graph_at t q) b port) (sym l) ∙ laws.connections (graph_at s p) (graph_at t q) to back x i port r))
 
-module _ (s t : Tree) (e : Same s t) (st su : State) (same : StatesAgree s t st su) (ins : List ℕ) (v w : Occurrence → ℕ) (p : List ℕ) (n : ℕ) (q : List ℕ) (m : ℕ) (tw : Twin s t p n q m) (a : NeedsAgree s t v w p n) where
+module _ (laws : HavePartners) (s t : Tree) (e : Same s t) (st su : State) (same : StatesAgree s t st su) (ins : List ℕ) (v w : Occurrence → ℕ) (p : List ℕ) (n : ℕ) (q : List ℕ) (m : ℕ) (tw : Twin s t p n q m) (a : NeedsAgree s t v w p n) where
   abbrev IsHere : Node → Type 0
   IsHere x = NodeIs s p n x
 
   operand : (x : Node) → IsHere x → (id : NodeId) → Has (comb_fanin x) id → value_at v p id ≡ value_at w q (id_by tw.to id)
   operand x y id h =
       a p id.0 q (tw.to.node id.0) (inside x y h)
-      (record { paths = tw.paths; to = tw.to; back = tw.back; pairs = tw.pairs; reached = twin_reached s t tw (inside x y h); goes = refl })
+      (record { paths = tw.paths; to = tw.to; back = tw.back; pairs = tw.pairs; reached = laws.operand s t tw (inside x y h); goes = refl })
 
   vector : (x : Node) → IsHere x → (id : NodeId) → Has (comb_fanin x) id → vector_at s v p id ≡ vector_at t w q (id_by tw.to id)
   vector x y id h =
       ap₂ (λ b c. record { width = b; value = c })
-      (sym (ap width_of (tw.pairs.nodes id.0 (twin_reached s t tw (inside x y h))) ∙ width_by tw.to (slice_get (graph_at s p).nodes id.0)))
+      (sym (ap width_of (tw.pairs.nodes id.0 (laws.operand s t tw (inside x y h))) ∙ width_by tw.to (slice_get (graph_at s p).nodes id.0)))
       (operand x y id h)
 
   vectors : (x : Node) → IsHere x → (ids : List NodeId) → ((id : NodeId) → Has ids id → Has (comb_fanin x) id) → map (vector_at s v p) ids ≡ map (vector_at t w q) (map (id_by tw.to) ids)
@@ -88,14 +71,14 @@ module _ (s t : Tree) (e : Same s t) (st su : State) (same : StatesAgree s t st 
   output_twin i port y =
       let r : Reached (graph_at s p) (inst i) = reached_fanin (graph_at s p) n (InstOut (record { 0 = i }) port) (inst i) y.0 y.1 y.2 tw.reached first in
       let z : SomePairs (graph_at s (i ∷ p)) (graph_at t (tw.to.inst i ∷ q)) =
-      pairs_of (tree_at s (i ∷ p)) (tree_at t (tw.to.inst i ∷ q)) (same_kid (tree_at s p) (tree_at t q) tw.to tw.back i (same_at s t e tw.paths) tw.pairs r) in
+      laws.graphs (tree_at s (i ∷ p)) (tree_at t (tw.to.inst i ∷ q)) (laws.kids (tree_at s p) (tree_at t q) tw.to tw.back i (laws.trees s t e tw.paths) tw.pairs r) in
       may_value_by z.0 v w (i ∷ p) (tw.to.inst i ∷ q) (slice_get (graph_at s (i ∷ p)).outputs port)
       (λ id o. a (i ∷ p) id.0 (tw.to.inst i ∷ q) (z.0.node id.0) (down port y o)
-      (record { paths = below tw.to tw.back tw.paths tw.pairs r refl; to = z.0; back = z.1; pairs = z.2; reached = twin_reached s t tw (down port y o); goes = refl }))
+      (record { paths = below tw.to tw.back tw.paths tw.pairs r refl; to = z.0; back = z.1; pairs = z.2; reached = laws.operand s t tw (down port y o); goes = refl }))
       ∙ ap (optional_value w (tw.to.inst i ∷ q)) (sym (ap (λ l. slice_get l port) z.2.outputs ∙ slice_get-map (id_by z.0) (graph_at s (i ∷ p)).outputs port))
 
   twin_value : (x : Node) → IsHere x → value s st ins v p n x ≡ value t su ins w q m (node_by tw.to x)
-  twin_value (Input port) y = input_twin s t ins v w p n q port tw.paths y a (λ r k b. twin_reached s t tw b)
+  twin_value (Input port) y = input_twin laws s t ins v w p n q port tw.paths y a (λ r k b. laws.operand s t tw b)
   twin_value (Wire None) y = refl
   twin_value (Wire (Some d)) y = operand (Wire (Some d)) y d first
   twin_value (Const c) y = refl
@@ -113,15 +96,15 @@ module _ (s t : Tree) (e : Same s t) (st su : State) (same : StatesAgree s t st 
   twin_value (Op kind args) y = ap (λ i. (operation kind i).value) (vectors (Op kind args) y args (λ i h. h))
 
 -- Settled numbers agree at twins.
-module _ (s t : Tree) (e : Same s t) (whole : IsWhole s) (free : ¬ HasCombLoop s) (st su : State) (same : StatesAgree s t st su) (ins : List ℕ) (v w : Occurrence → ℕ) (a : IsSettled s st ins v) (b : IsSettled t su ins w) where
+module _ (laws : HavePartners) (s t : Tree) (e : Same s t) (whole : IsWhole s) (free : ¬ HasCombLoop s) (st su : State) (same : StatesAgree s t st su) (ins : List ℕ) (v w : Occurrence → ℕ) (a : IsSettled s st ins v) (b : IsSettled t su ins w) where
   settled_deep : (f : ℕ) (p : List ℕ) (n : ℕ) (q : List ℕ) (m : ℕ) → Deep s whole free f p n → Twin s t p n q m → v (record { path = p; node = n }) ≡ w (record { path = q; node = m })
   settled_deep zero p n q m d tw = absurd (deep_none s whole free p n d)
   settled_deep (suc f) p n q m d tw =
       let x : HasRow (graph_at s p) (node n) = row_in (tree_at s p) (whole_at s whole p d.2.0) d.2.1 in
-      let y : NodeIs t q m (node_by tw.to x.0.node) = twin_node s t x.0.node tw (x.0, x.1, refl) in
+      let y : NodeIs t q m (node_by tw.to x.0.node) = laws.row s t x.0.node tw (x.0, x.1, refl) in
       a (record { path = p; node = n }) x.0 d.2 x.1
-      ∙ twin_value s t e st su same ins v w p n q m tw (λ r k u l h z. settled_deep f r k u l (deep_next s whole free f p n r k d h) z) x.0.node (x.0, x.1, refl)
-      ∙ sym (b (record { path = q; node = m }) y.0 (twin_is_reached s t tw) y.1 ∙ ap (value t su ins w q m) y.2)
+      ∙ twin_value laws s t e st su same ins v w p n q m tw (λ r k u l h z. settled_deep f r k u l (deep_next s whole free f p n r k d h) z) x.0.node (x.0, x.1, refl)
+      ∙ sym (b (record { path = q; node = m }) y.0 (laws.twin_reached s t tw) y.1 ∙ ap (value t su ins w q m) y.2)
 
   pub settled_twins : (p : List ℕ) (n : ℕ) (q : List ℕ) (m : ℕ) → IsReachedPath s p → Twin s t p n q m → v (record { path = p; node = n }) ≡ w (record { path = q; node = m })
   settled_twins p n q m r tw = settled_deep (length (occurrences s)) p n q m (deep_start s whole free p n (r, tw.reached)) tw

@@ -14,6 +14,8 @@ ghost use Rattle.hc_signal.specs.declared.signal.Port.{Port};
 ghost use Rattle.hc_outside.specs.Moves.{AppendsFront};
 ghost use Rattle.hc_signal.specs.Tree.{IsWhole, Tree, graph, leaf};
 
+use hc_trees::{same_trees_are_alike, same_trees_have_partners};
+
 /// A tree without a combinational loop settles, and in one way.
 pub fn loop_free_trees_settle_once()
     ensures some { (t : Tree) → IsWhole t → ¬ HasCombLoop t → (state : State) (inputs : List ℕ) → (v : Occurrence → ℕ) × IsSettled t state inputs v }
@@ -38,7 +40,10 @@ pub fn parts_of_listings_are_fronts()
 /// Trees that are the same give the steps of a bench the same rows.
 pub fn same_trees_run_alike()
     ensures { (s t : Tree) → Same s t → IsWhole s → IsWhole t → ¬ HasCombLoop s → (state other : State) → IsInitialState s state → IsInitialState t other → (inputs : List ℕ) (count : ℕ) (steps : List Step) (rows : List CycleRow) → Trace s state inputs count steps rows → Trace t other inputs count steps rows }
-{}
+{
+    same_trees_have_partners();
+    same_trees_are_alike();
+}
 
 /// A tree has the rows of its flat graph: both give them from their initial states, for the steps of any bench.
 pub fn flat_graphs_run_alike()
@@ -48,12 +53,16 @@ pub fn flat_graphs_run_alike()
 /// The initial states of a tree without a combinational loop give the steps of a bench one list of rows.
 pub fn runs_are_single()
     ensures { (t : Tree) → IsWhole t → ¬ HasCombLoop t → (steps : List Step) (rows others : List CycleRow) → IsRun t steps rows → IsRun t steps others → rows ≡ others }
-{}
+{
+    same_trees_have_partners();
+}
 
 /// What a sink took of a bench that was played from the start is the listing of its run.
 pub fn listings_are_of_runs()
     ensures { (outputs : List Port) (sim : Simulation) (steps : List Step) (rows : List CycleRow) (old new : Option (List ℕ)) → IsSimulation sim → IsAtStart sim → IsRun sim.tree steps rows → IsListed outputs sim steps old new → Appends old new (listing outputs rows) }
-{}
+{
+    same_trees_have_partners();
+}
 
 /// A tree without a combinational loop gives the steps of a bench some run: it has initial states, and these give rows.
 pub fn benches_have_runs()

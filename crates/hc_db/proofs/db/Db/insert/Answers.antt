@@ -1,7 +1,7 @@
 use Rattle.hc_turn.specs.Passes.{known, seen, kept}
 use Rattle.hc_dbstate.specs.History.{log}
 use Rattle.hc_db.specs.Inserting.{Finds}
-use Rattle.hc_db.proofs.Turns.{grows, adds, inserts}
+use Rattle.hc_db.proofs.Turns.{grows, adds, inserts, owns_all}
 use Rattle.hc_db.proofs.db.Db.insert.Goals as goal
 
 pub insert-answer-requires : goal.insert-answer-requires
@@ -24,3 +24,11 @@ returns-clause-ok g c =
     let found : Finds (known c.args.pass.now) old = record { legal = c.legal.ensures; seen = c.enter-state.ensures.seen; kept = c.enter-state.ensures.kept } in
     inserts old c.insert-answer.new.self c.args.form _ (known c.enter-state.new.pass) (known c.leave.new.pass) found c.legal-2.ensures c.enter-state.ensures.pass
     c.insert-answer.result c.insert-answer.ensures.ok c.leave.ensures.more
+
+pub returns-clause-all : goal.returns-clause-all
+returns-clause-all g c whole =
+    let old = c.enter-state.result.state in
+    let new = c.insert-answer.new.self in
+    let insert = c.insert-answer.ensures in
+    owns_all (known c.args.pass.now) (known c.enter-state.new.pass) (known c.leave.new.pass) (log old) (log new) c.enter-state.ensures.pass
+    (adds old new c.args.form c.insert-answer.result insert.ok insert.same) c.leave.ensures.same c.leave.ensures.more (c.enter-state.ensures.all whole)

@@ -29,7 +29,7 @@ pub fn form_of(
 ) -> Result<Step, NoMemory>
     requires checked { IsChecked row.now.body.circuit }
     requires many { length row.now.kids ≡ length row.now.body.circuit.instances }
-    ensures ready { IfOk result (λ s. (form : FormView) (p : spec_paths.Paths) → s ≡ is.Ready form p → IsReady (outs_of outs.now) row.now form p.masks.items) }
+    ensures ready { IfOk result (λ s. (form : FormView) (p : spec_paths.Paths) → s ≡ is.Ready form p → IsReady (outs_of outs.now) row.now form p.masks) }
     ensures looped { IfOk result (λ s. s ≡ is.Looped → IsLooped (outs_of outs.now) row.now) }
     ensures passed { IfOk result (λ s. s ≡ is.PassedOver → all_done (outs_of outs.now) row.now.kids ≡ None) }
 {

@@ -1,8 +1,8 @@
 -- Rows of a plan that are finished one after another.
-use Rattle.std.proofs.Common.{◌≡◌, ℕ, zero, suc, ◌+◌, ◌<◌, ◌≤◌, ◌⊎◌, inl, inr, true, false, List, [], ◌∷◌, ◌++◌, length, map, take, get_or, refl, sym, ap, subst, ◌∙◌, append_assoc, append-nil, arith}
+use Rattle.std.proofs.Common.{◌≡◌, ℕ, zero, suc, ◌+◌, ◌<◌, ◌≤◌, ◌⊎◌, inl, inr, List, [], ◌∷◌, ◌++◌, length, map, take, get_or, refl, sym, ap, subst, ◌∙◌, append_assoc, append-nil, arith}
 use Rattle.std.proofs.lemmas.Bool.{cases_lt}
 use Rattle.std.proofs.lemmas.List.{length_push, map-append, take_more, length-map}
-use Rattle.std.proofs.lemmas.Option.{slice_get_within, slice_get-get_or}
+use Rattle.std.proofs.lemmas.Option.{get_or_from_slice_get, slice_get-get_or, slice_get_within}
 use Rattle.std.specs.Prelude.{slice_get, Option, Some, None, unwrap_or, Ok, ℤ}
 use Rattle.hc_fault.specs.declared.fault.Fault.{Fault}
 use Rattle.hc_fault.specs.declared.fault.Path.{Path}
@@ -15,7 +15,7 @@ use Rattle.hc_canon.specs.declared.form.EntryId.{EntryId}
 use Rattle.hc_canon.specs.FormView.{FormView}
 use Rattle.hc_dbstate.specs.declared.turns.Entered.{Entered}
 use Rattle.hc_dbstate.specs.History.{History, entered, log}
-use Rattle.hc_dbstate.specs.Insertion.{IsInserted, entries_after}
+use Rattle.hc_dbstate.specs.Insertion.{IsInserted}
 use Rattle.hc_body.specs.declared.kinds.Body.{Body}
 use Rattle.hc_body.specs.BodyOf.{BodyOf}
 use Rattle.hc_body.specs.BodyOf as body_of
@@ -41,9 +41,6 @@ left_same (y ∷ xs) x (suc k) l = left_same xs x k (omega (arith, l))
 last_is : {X : Type 0} (xs : List X) (x : X) → slice_get (xs ++ x ∷ []) (length xs) ≡ Some x
 last_is [] x = refl
 last_is (y ∷ xs) x = last_is xs x
-
-left_stays : {X : Type 0} (xs : List X) (x : X) (k : ℕ) (y : X) → slice_get xs k ≡ Some y → slice_get (xs ++ x ∷ []) k ≡ Some y
-left_stays xs x k y e = left_same xs x k (slice_get_within xs k y e) ∙ e
 
 item_at : {X : Type 0} (xs : List X) (k : ℕ) → k < length xs → (x : X) × (slice_get xs k ≡ Some x)
 item_at [] k l = absurd (omega (arith, l))
@@ -92,20 +89,12 @@ kids_there h outs row form masks there ready id m =
 
 -- ---- one row
 
--- forms stay when an entry is added
-forms_stay : (old new : History) (form : FormView) (id : EntryId) → IsInserted old new form id → (other : EntryId) (f : FormView) → HasForm old other f → HasForm new other f
-forms_stay old new form id i other f e = subst (λ l. slice_get l other.0 ≡ Some f) (sym i.entries) (by i.fresh)
-  where
-    by : (fresh : _) → slice_get (entries_after old.entries form fresh) other.0 ≡ Some f
-    by true = left_stays old.entries form other.0 f e
-    by false = e
-
 -- a row whose form was inserted is finished
-pub is_inserted : (old new : History) (outs : List Outcome) (row : PlanRow) (form : FormView) (masks : List ℕ) (id : EntryId) → IsReady outs row form masks → IsInserted old new form id → IsFinished old new outs row (Some (id, masks))
-is_inserted old new outs row form masks id r i = record {
+pub is_inserted : (old new : History) (outs : List Outcome) (row : PlanRow) (form : FormView) (masks : List ℕ) (id : EntryId) → IsReady outs row form masks → IsInserted old new form id → ((entry : EntryId) (kept : FormView) → HasForm old entry kept → HasForm new entry kept) → IsFinished old new outs row (Some (id, masks))
+is_inserted old new outs row form masks id r i kept = record {
   outcome = finished r.kids id masks form r.done i.found r.canon r.right r.free;
   logs = record { added = entered id i.fresh form ∷ []; log = i.log; turns = refl };
-  kept = forms_stay old new form id i;
+  kept = kept;
 }
 
 -- a row that takes no turn
@@ -208,8 +197,9 @@ are_there old h rows outs are k x out =
 
 -- ---- a step of the loop
 
-pub row_at : (rows : List PlanRow) (i : ℕ) (row : PlanRow) → i < length rows → row ≡ get_or rows i row → slice_get rows i ≡ Some row
-row_at rows i row l e = slice_get-get_or rows i row l ∙ ap Some (sym e)
+-- the row of a turn of the loop
+pub row_at : (rows items : List PlanRow) (i : ℕ) (row : PlanRow) → items ≡ rows → i < length items → row ≡ get_or items i row → slice_get rows i ≡ Some row
+row_at rows items i row same l e = ap (λ xs. slice_get xs i) (sym same) ∙ slice_get-get_or items i row l ∙ ap Some (sym e)
 
 taken_at : {X : Type 0} (n : ℕ) (xs : List X) (j : ℕ) (x : X) → slice_get (take n xs) j ≡ Some x → slice_get xs j ≡ Some x
 taken_at zero xs j x e = cc
@@ -218,18 +208,21 @@ taken_at (suc n) (y ∷ xs) zero x e = e
 taken_at (suc n) (y ∷ xs) (suc j) x e = taken_at n xs j x e
 
 -- one row more is finished
-pub one_more : (d : Design) (rows : List PlanRow) (stop : Option Fault) → IsPlanOf d rows stop → (i : ℕ) (row : PlanRow) → i < length rows → row ≡ get_or rows i row → (old mid new : History) (xs ys : List (Option (EntryId × Paths))) (x : Option (EntryId × Paths))
-    → AreFinished old mid (take i rows) (outs_of xs) → IsFinished mid new (outs_of xs) row (outcome_of x) → ys ≡ xs ++ x ∷ [] → AreFinished old new (take (i + 1) rows) (outs_of ys)
-one_more d rows stop plan i row l e old mid new xs ys x are is q = subst (λ t. AreFinished old new t (outs_of ys)) (sym taken) (subst (λ t. AreFinished old new (take i rows ++ row ∷ []) t) (sym outs) both)
+pub one_more : (d : Design) (rows : List PlanRow) (stop : Option Fault) → IsPlanOf d rows stop → (i : ℕ) (row : PlanRow) → slice_get rows i ≡ Some row → (old mid new : History) (xs ls ys : List (Option (EntryId × Paths))) (x : Option (EntryId × Paths))
+    → AreFinished old mid (take i rows) (outs_of xs) → ls ≡ xs → IsFinished mid new (outs_of ls) row (outcome_of x) → ys ≡ xs ++ x ∷ [] → AreFinished old new (take (i + 1) rows) (outs_of ys)
+one_more d rows stop plan i row at old mid new xs ls ys x are same finish q = subst (λ t. AreFinished old new t (outs_of ys)) (sym taken) (subst (λ t. AreFinished old new (take i rows ++ row ∷ []) t) (sym outs) both)
   where
     taken : take (i + 1) rows ≡ take i rows ++ row ∷ []
-    taken = take_more rows i row l ∙ ap (λ r. take i rows ++ r ∷ []) (sym e)
+    taken = take_more rows i row (slice_get_within rows i row at) ∙ ap (λ r. take i rows ++ r ∷ []) (get_or_from_slice_get rows i row row at)
+
+    is : IsFinished mid new (outs_of xs) row (outcome_of x)
+    is = subst (λ l. IsFinished mid new (outs_of l) row (outcome_of x)) same finish
 
     outs : outs_of ys ≡ outs_of xs ++ outcome_of x ∷ []
     outs = ap outs_of q ∙ outs_more xs x
 
     below : AreBelow (take i rows ++ row ∷ [])
-    below = subst AreBelow taken (λ j r at k h. ((row_is d rows stop plan j r (taken_at (i + 1) rows j r at)).1).below k h)
+    below = subst AreBelow taken (λ j r e k h. ((row_is d rows stop plan j r (taken_at (i + 1) rows j r e)).1).below k h)
 
     both : AreFinished old new (take i rows ++ row ∷ []) (outs_of xs ++ outcome_of x ∷ [])
     both = record {

@@ -10,7 +10,7 @@ ghost use Rattle.hc_signal.specs.Checked.{IsChecked};
 
 use hc_body::laws::bodies_have_their_children;
 use hc_canon::EntryId;
-use hc_dbstate::{DbState, Hier};
+use hc_dbstate::{DbState, Hier, entries_keep_their_forms};
 use hc_fault::{NoMemory, Refused};
 use hc_lang::Design;
 use hc_paths::kinds::Paths;
@@ -31,6 +31,7 @@ fn finish(
     ensures ok { IfOk result (λ out. IsFinished db.old db.new (outs_of outs.now) row.now (outcome_of out)) }
     ensures same { OnErr result (db.new ≡ db.old) }
 {
+    entries_keep_their_forms();
     let step = match form_of(alloc, row, outs) {
         Ok(step) => step,
         Err(refused) => return Err(refused),
@@ -59,13 +60,8 @@ fn finish_rows(
     bodies_have_their_children();
     let mut outs = Vec::new(alloc);
     'rows: for row in plan.rows.as_slice() {
-        let out = match finish(alloc, row, outs.as_slice(), db) {
-            Ok(out) => out,
-            Err(refused) => return Err(refused),
-        };
-        if outs.push(out).is_err() {
-            return Err(NoMemory);
-        }
+        let out = finish(alloc, row, outs.as_slice(), db)?;
+        outs.push(out)?;
     }
     Ok(outs)
 }

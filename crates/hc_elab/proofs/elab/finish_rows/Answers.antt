@@ -1,7 +1,6 @@
-use Rattle.std.proofs.Common.{rules, ◌≡◌, ◌∷◌, ◌++◌, [], ap, subst, sym}
-use Rattle.std.specs.Prelude.{slice_get, Some}
+use Rattle.std.proofs.Common.{subst, sym}
 use Rattle.hc_plan.specs.Stepping.{outs_of}
-use Rattle.hc_elab.specs.Rows.{AreThere, IsFinished}
+use Rattle.hc_elab.specs.Rows.{AreThere}
 use Rattle.hc_elab.proofs.Finished.{are_there, one_more, row_at, row_checked, row_many}
 use Rattle.hc_elab.proofs.elab.finish_rows.Goals as goal
 

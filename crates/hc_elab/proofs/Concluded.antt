@@ -1,5 +1,5 @@
 -- What a design elaborates to, once the rows of its plan are finished.
-use Rattle.std.proofs.Common.{◌≡◌, ℕ, zero, suc, ◌+◌, ◌<◌, List, [], ◌∷◌, ◌++◌, length, map, refl, sym, ap, subst, ◌∙◌, arith}
+use Rattle.std.proofs.Common.{◌≡◌, ℕ, zero, suc, ◌<◌, List, [], ◌∷◌, ◌++◌, length, refl, sym, ap, subst, ◌∙◌, arith}
 use Rattle.std.proofs.lemmas.List.{length_push}
 use Rattle.std.specs.Prelude.{slice_get, Option, Some, None, unwrap_or, Result, Ok, Err}
 use Rattle.hc_fault.specs.declared.fault.Fault.{Fault}
@@ -8,9 +8,7 @@ use Rattle.hc_fault.specs.declared.fault.Refused.TheVariants as refused
 use Rattle.hc_lang.specs.declared.tree.Design.{Design}
 use Rattle.hc_paths.specs.declared.kinds.Paths.{Paths}
 use Rattle.hc_canon.specs.declared.form.EntryId.{EntryId}
-use Rattle.hc_canon.specs.FormView.{FormView}
 use Rattle.hc_dbstate.specs.declared.hier.Hier.{Hier}
-use Rattle.hc_dbstate.specs.declared.turns.Entered.{Entered}
 use Rattle.hc_dbstate.specs.Elaboration.{hier_view}
 use Rattle.hc_dbstate.specs.History.{History, IsLegal}
 use Rattle.hc_body.specs.TopCall.{top_call}

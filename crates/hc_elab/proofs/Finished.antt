@@ -22,7 +22,7 @@ use Rattle.hc_body.specs.BodyOf as body_of
 use Rattle.hc_body.specs.Children.{AreChildrenOf}
 use Rattle.hc_statements.specs.declared.kinds.Child.{Child}
 use Rattle.hc_plan.specs.Elaborates.{FinishedCall}
-use Rattle.hc_plan.specs.Finishing.{AreOutcomes, IsOutcome, Outcome, all_done, finished, ids_of, looped, outcome_in, passed_over, put_first}
+use Rattle.hc_plan.specs.Finishing.{AreOutcomes, IsOutcome, Outcome, all_done, finished, looped, outcome_in, passed_over, put_first}
 use Rattle.hc_plan.specs.Hierarchies.{Done, LogGrew}
 use Rattle.hc_plan.specs.Plan.{IsPlanOf, IsRowOf, call_at}
 use Rattle.hc_plan.specs.Stepping.{IsLooped, IsReady, outcome_of, outs_of}

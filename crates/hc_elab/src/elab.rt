@@ -58,8 +58,9 @@ fn finish_rows(
     ensures grew { LogGrew db.old db.new }
 {
     bodies_have_their_children();
+    let rows = plan.rows.as_slice();
     let mut outs = Vec::new(alloc);
-    'rows: for row in plan.rows.as_slice() {
+    'rows: for row in rows {
         let out = finish(alloc, row, outs.as_slice(), db)?;
         outs.push(out)?;
     }

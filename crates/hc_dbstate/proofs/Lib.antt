@@ -6,6 +6,7 @@ pub mod Unfolded
 pub mod Denoted
 pub mod Indexed
 pub mod Walks
+pub mod Kept
 pub mod Named
 pub mod Marks
 pub mod Called

@@ -10,9 +10,8 @@ ghost use Rattle.hc_summary.specs.Summary.{IsSummary};
 
 use crate::lines::text_of;
 use hc_bench::kinds::{Bench, Step};
-use hc_dbstate::{DbState, Hier};
+use hc_dbstate::{DbState, Hier, used_entries, used_entries_are_called};
 use hc_fault::NoMemory;
-use hc_modules::used_entries;
 use hc_plan::calls_stand_for_calls;
 use std::alloc::Global;
 
@@ -60,6 +59,7 @@ pub fn summary(alloc: Global, db: &DbState, hier: &Hier, bench: &Bench) -> Resul
         → AreCalled db.now.entries hier.now → IsRun e.tree bench.now.steps rows → IsSummary e rows text.items) }
 {
     calls_stand_for_calls();
+    used_entries_are_called();
     db.legal();
     let used = used_entries(alloc, db, hier.entry)?;
     let steps = bench.steps.as_slice();

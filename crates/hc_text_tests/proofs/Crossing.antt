@@ -50,7 +50,7 @@ stmt_row_send : IsSend Stmt.the_row
 stmt_row_send = search (stmt_send, sendable, crosses) depth 10
 
 head_send : IsSend Head.the_row
-head_send = search (num_send, num_field_send, sendable, crosses) depth 30
+head_send = search (num_field_send, sendable, crosses) depth 30
 
 pub circuit_send : IsSend CircuitText.the_row
 circuit_send = search (head_send, stmt_row_send, sendable, crosses) depth 30
@@ -59,7 +59,7 @@ stmt_row_sync : IsSync Stmt.the_row
 stmt_row_sync = search (stmt_sync, sendable, crosses) depth 10
 
 head_sync : IsSync Head.the_row
-head_sync = search (num_sync, num_field_sync, sendable, crosses) depth 30
+head_sync = search (num_field_sync, sendable, crosses) depth 30
 
 pub circuit_sync : IsSync CircuitText.the_row
 circuit_sync = search (head_sync, stmt_row_sync, sendable, crosses) depth 30

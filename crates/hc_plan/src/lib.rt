@@ -2,9 +2,9 @@
 #![tactic(auto)]
 
 mod called_laws;
-mod ending;
 mod deep;
 mod depth_first;
+mod ending;
 mod hierarchy;
 pub mod kinds;
 mod laws;
@@ -14,14 +14,13 @@ mod step;
 mod sums;
 
 pub use called_laws::{calls_stand_for_calls, entries_are_called};
-pub use ending::conclude;
 pub use depth_first::plan;
+pub use ending::conclude;
 pub use hierarchy::hier_of;
 pub use laws::{
-    calls_are_not_below_themselves, calls_met_again, deep_calls_stop,
-    designs_elaborate_once, distinct_calls_decide, elaborated_trees, equal_calls_are_alike,
-    loops_come_first, plans_decide, plans_elaborate, rows_add_up, tree_faults_are_single,
-    walks_are_finishes,
+    calls_are_not_below_themselves, calls_met_again, deep_calls_stop, designs_elaborate_once,
+    distinct_calls_decide, elaborated_trees, equal_calls_are_alike, loops_come_first, plans_decide,
+    plans_elaborate, rows_add_up, tree_faults_are_single, walks_are_finishes,
 };
 pub use step::{Step, form_of};
 pub use sums::Sums;

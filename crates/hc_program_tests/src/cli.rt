@@ -1,6 +1,6 @@
 use hc_bits::OpKind;
 use hc_cli::run_one;
-use hc_ops::functions::{greatest, least, leading_zeros, popcount, reverse, saturating_sum};
+use hc_ops::functions::{greatest, leading_zeros, least, popcount, reverse, saturating_sum};
 use hc_ops::{CombOp, OpTable};
 use hc_outside::{MemSink, MemSource};
 use std::alloc::Global;

@@ -32,7 +32,12 @@ fn operations_end_as_told(rt: HostRuntime) -> Result<(), Fail> {
         ("both", ONES, 0, ONES_BOTH),
         ("verilog", UNKNOWN, 1, "F37 UnknownOp line 4 path /\n"),
         ("sim", UNKNOWN_ASIDE, 0, "0 y=7 | y=7\n"),
-        ("sim", WITHIN, 0, "0 q=06 p=2 | q=73 p=5\n1 q=73 p=5 | q=ff p=8\n"),
+        (
+            "sim",
+            WITHIN,
+            0,
+            "0 q=06 p=2 | q=73 p=5\n1 q=73 p=5 | q=ff p=8\n",
+        ),
         ("sim", ENDS, 0, ENDS_ROW),
         ("sim --flat", ENDS, 0, ENDS_ROW),
     ];

@@ -10,13 +10,13 @@ ghost use Rattle.hc_words.specs.declared.job.Verb.TheVariants as verbs;
 ghost use Rattle.hc_output.specs.Output.{IsServed, IsVerilogFor};
 ghost use Rattle.hc_output.specs.Prepared.{HasOutput, IsFlatOf, IsReady};
 
-use crate::flat::{flat_circuit, playable_circuit, title_text};
+use crate::flat::{flat_circuit, title_text};
 use crate::kinds::{Output, Played};
 use crate::modules::modules_text;
 use hc_bench::kinds::Bench;
 use hc_dbstate::{DbState, Hier};
-use hc_plan::elaborated_trees;
 use hc_fault::{Name, NoMemory};
+use hc_plan::elaborated_trees;
 use hc_signal::Circuit;
 use hc_summary::summary;
 use hc_traces::{benches_have_runs, flat_graphs_run_alike, same_trees_run_alike};
@@ -117,7 +117,7 @@ fn sim_output(
     benches_have_runs();
     flat_graphs_run_alike();
     same_trees_run_alike();
-    let circuit = playable_circuit(alloc, db, hier)?;
+    let circuit = flat_circuit(alloc, db, hier)?;
     circuit.lawful();
     Ok(Output {
         text: Vec::new(alloc),
@@ -142,7 +142,7 @@ fn both_output(
     benches_have_runs();
     flat_graphs_run_alike();
     same_trees_run_alike();
-    let circuit = playable_circuit(alloc, db, hier)?;
+    let circuit = flat_circuit(alloc, db, hier)?;
     circuit.lawful();
     let mut text = verilog_with(alloc, flat, title, db, hier, &circuit)?;
     text.push(b'\n')?;

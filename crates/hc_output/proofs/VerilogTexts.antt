@@ -1,7 +1,7 @@
 -- An elaborated design has the Verilog of its hierarchy.
 use Rattle.std.proofs.Common.{◌≡◌, ℕ, ◌<◌, ◌≤◌, ◌^◌, List, [], ◌∷◌, length, refl, subst, arith}
 use Rattle.std.proofs.lemmas.List.{length-map}
-use Rattle.std.specs.Prelude.{map, slice_get, Some}
+use Rattle.std.specs.Prelude.{slice_get, Some}
 use Rattle.hc_signal.specs.Checked.{IsChecked}
 use Rattle.hc_signal.specs.declared.signal.Instance.{Instance}
 use Rattle.hc_signal.specs.Lawful.{IsLawful}
@@ -19,6 +19,7 @@ abbrev named_call : ElaboratedCall → NamedTree
 named_call x = record { name = x.name; tree = x.tree }
 
 has_named : (calls : List ElaboratedCall) (x : ElaboratedCall) → Has calls x → Has (named_calls calls) (named_call x)
+has_named [] y has = elim has [ ]
 has_named (x ∷ calls) y first = first
 has_named (x ∷ calls) y (later has) = later (has_named calls y has)
 
@@ -37,7 +38,7 @@ lawful_top none w = absurd w
 lawful_top (tree g kids) w = w.0
 
 module _ (calls : List ElaboratedCall) (whole : (x : ElaboratedCall) → Has calls x → IsWhole x.tree) (checked : (x : ElaboratedCall) → Has calls x → IsChecked (graph x.tree))
-  (closed : (x : ElaboratedCall) → Has calls x → (i : ℕ) (it : Instance) → slice_get (graph x.tree).instances i ≡ Some it → (y : ElaboratedCall) × Has calls y × (y.tree ≡ kid x.tree i)) where
+    (closed : (x : ElaboratedCall) → Has calls x → (i : ℕ) (it : Instance) → slice_get (graph x.tree).instances i ≡ Some it → (y : ElaboratedCall) × Has calls y × (y.tree ≡ kid x.tree i)) where
   writable : (x : ElaboratedCall) → Has calls x → IsWritable (named_calls calls) (named_call x)
   writable x has =
       let c : IsChecked (graph x.tree) = checked x has in

@@ -27,11 +27,7 @@ pub enum SendStop {
 }
 
 /// Writes the listing of a run from the start.
-fn play_from_start<S: Sim, K: Sink>(
-    sim: &mut S,
-    played: &Played,
-    to: &mut K,
-) -> Result<(), Failed>
+fn play_from_start<S: Sim, K: Sink>(sim: &mut S, played: &Played, to: &mut K) -> Result<(), Failed>
     requires tree { (S.runs sim.old).tree ≡ leaf played.now.circuit }
     requires start { IsAtStart (S.runs sim.old) }
     requires playable { IsPlayable played.now.circuit played.now.bench.steps }

@@ -1,5 +1,5 @@
 -- The tree of an elaborated design has a flat text.
-use Rattle.std.proofs.Common.{◌≡◌, ◌⊎◌, inl, inr, ℕ, zero, suc, ◌+◌, ◌≤◌, List, [], ◌∷◌, length, refl, sym, ap, subst, arith}
+use Rattle.std.proofs.Common.{◌≡◌, ◌⊎◌, inl, inr, ℕ, zero, suc, ◌≤◌, List, [], ◌∷◌, length, ap, arith}
 use Rattle.std.specs.Prelude.{sum_by}
 use Rattle.std.proofs.lemmas.List.Sums.{sum_by-cons}
 use Rattle.hc_signal.specs.Checked.{IsChecked}
@@ -8,7 +8,7 @@ use Rattle.hc_signal.specs.Graph.{Graph}
 use Rattle.hc_signal.specs.Lawful.{IsLawful}
 use Rattle.hc_signal.specs.Occurrences.{graph_at, tree_at}
 use Rattle.hc_signal.specs.Tree.{IsWhole, Tree, graph, leaf, none, tree}
-use Rattle.hc_signal.specs.Weight.{graph_weight, instance_weight, memory_weight, node_weight}
+use Rattle.hc_signal.specs.Weight.{graph_weight, memory_weight, node_weight}
 use Rattle.hc_flatten.specs.Flattened.{flat_graph}
 use Rattle.hc_flatten.specs.Sizes.{memories_in, nodes_in, sum_to, total}
 use Rattle.hc_flattext.specs.FlatText.{IsFlatText}

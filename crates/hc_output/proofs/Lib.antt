@@ -3,3 +3,4 @@ pub mod Outputs
 pub mod Runs
 pub mod Sends
 pub mod FlatTexts
+pub mod VerilogTexts

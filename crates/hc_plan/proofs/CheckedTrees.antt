@@ -6,6 +6,7 @@ use Rattle.hc_fault.specs.declared.fault.Path.{Path}
 use Rattle.hc_lang.specs.declared.tree.CircuitText.{CircuitText}
 use Rattle.hc_lang.specs.declared.tree.Design.{Design}
 use Rattle.hc_signal.specs.Checked.{IsChecked}
+use Rattle.hc_signal.specs.Member.{Has}
 use Rattle.hc_signal.specs.Occurrences.{graph_at, tree_at}
 use Rattle.hc_signal.specs.Tree.{IsWhole, Tree, graph, kid, none, tree}
 use Rattle.hc_statements.specs.declared.kinds.Call.{Call}
@@ -13,7 +14,8 @@ use Rattle.hc_statements.specs.declared.kinds.Child.{Child}
 use Rattle.hc_body.specs.BodyOf.{BodyOf, body_of, broken, many_ports, no_outputs, undriven}
 use Rattle.hc_body.specs.BodyOf as body
 use Rattle.hc_body.specs.declared.kinds.Body.{Body}
-use Rattle.hc_plan.specs.Elaborates.{DesignFinishes, ElaborateChildren, Elaborated, Elaborates, FinishedCall, Sums, body_fault, called, child_fault, comb_loop, elaborated_call, fault_in_child, later_fault, many_words, no_more, one_more, past_limit, too_deep, tree_of_kid, whole}
+use Rattle.hc_plan.specs.Elaborates.{DesignFinishes, ElaborateChildren, Elaborated, ElaboratedCall, Elaborates, FinishedCall, Sums, body_fault, called, child_fault, comb_loop, elaborated_call, fault_in_child, later_fault, many_words, no_more, one_more, past_limit, too_deep, tree_of_kid, whole}
+use Rattle.hc_plan.proofs.EachCall.{each_call}
 
 -- ---- trees
 
@@ -77,3 +79,7 @@ module _ (L : Tree → Type 0) (d : Design) where
 
   pub checked_circuits : {done : List FinishedCall} {e : Elaborated} → DesignFinishes L d done (Ok e) → (path : List ℕ) → IsWhole (tree_at e.tree path) → IsChecked (graph_at e.tree path)
   checked_circuits {done} {e} (called call q x) path w = checked_graph (tree_at e.tree path) (checked_at e.tree path (tree_of x e refl)) w
+
+  -- so is that of each call
+  pub checked_calls : {done : List FinishedCall} {e : Elaborated} → DesignFinishes L d done (Ok e) → (x : ElaboratedCall) → Has e.calls x → IsWhole x.tree → IsChecked (graph x.tree)
+  checked_calls finishes x m = checked_graph x.tree (each_call L d IsCheckedTree (λ level path call done e y. tree_of y e refl) finishes x m)

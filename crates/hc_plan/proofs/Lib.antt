@@ -36,3 +36,4 @@ pub mod Called
 pub mod CheckedTrees
 pub mod LightTrees
 pub mod ClosedCalls
+pub mod EachCall

@@ -8,6 +8,7 @@ use Rattle.hc_lang.specs.declared.tree.CircuitText.{CircuitText}
 use Rattle.hc_lang.specs.declared.tree.Design.{Design}
 use Rattle.hc_signal.specs.declared.signal.Instance.{Instance}
 use Rattle.hc_signal.specs.Lawful.{IsLawful}
+use Rattle.hc_signal.specs.Member.{Has}
 use Rattle.hc_signal.specs.Tree.{IsWhole, Tree, graph}
 use Rattle.hc_statements.specs.PortWidths.{port_widths, ports_of}
 use Rattle.hc_statements.specs.declared.kinds.Call.{Call}
@@ -15,7 +16,8 @@ use Rattle.hc_statements.specs.declared.kinds.Child.{Child}
 use Rattle.hc_body.specs.BodyOf.{BodyOf, IsCall, IsCallOf}
 use Rattle.hc_body.specs.Children.{AreChildrenOf}
 use Rattle.hc_body.specs.declared.kinds.Body.{Body}
-use Rattle.hc_plan.specs.Elaborates.{DesignFinishes, ElaborateChildren, Elaborated, Elaborates, FinishedCall, Sums, body_fault, body_tree, called, child_fault, comb_loop, elaborated_call, fault_in_child, later_fault, many_words, no_more, one_more, past_limit, too_deep, tree_of_kid, whole}
+use Rattle.hc_plan.specs.Elaborates.{DesignFinishes, ElaborateChildren, Elaborated, ElaboratedCall, Elaborates, FinishedCall, Sums, body_fault, body_tree, called, child_fault, comb_loop, elaborated_call, fault_in_child, later_fault, many_words, no_more, one_more, past_limit, too_deep, tree_of_kid, whole}
+use Rattle.hc_plan.proofs.EachCall.{each_call}
 use Rattle.hc_plan.proofs.Right.{HaveChildren, HavePorts}
 
 abbrev pub AreLawful : Design → Type 0
@@ -103,3 +105,7 @@ module _ (d : Design) (lawful : AreLawful d) (have_ports : HavePorts d) (have_ch
 
     pub whole_tree : {done : List FinishedCall} {e : Elaborated} → DesignFinishes L d done (Ok e) → IsWhole e.tree
     whole_tree {done} {e} (called call q x) = (tree_of x e refl).whole
+
+    -- so is the tree of each call
+    pub whole_calls : {done : List FinishedCall} {e : Elaborated} → DesignFinishes L d done (Ok e) → (x : ElaboratedCall) → Has e.calls x → IsWhole x.tree
+    whole_calls = each_call L d IsWhole (λ level path call done e x. (tree_of x e refl).whole)

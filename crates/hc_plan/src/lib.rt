@@ -2,6 +2,7 @@
 #![tactic(auto)]
 
 mod answer_laws;
+mod call_laws;
 mod called_laws;
 mod deep;
 mod depth_first;
@@ -16,6 +17,7 @@ mod sums;
 mod whole_laws;
 
 pub use answer_laws::designs_have_answers;
+pub use call_laws::elaborated_calls_are_lawful;
 pub use called_laws::{calls_stand_for_calls, entries_are_called};
 pub use depth_first::plan;
 pub use ending::conclude;

@@ -6,7 +6,7 @@ ghost use Rattle.hc_plan.specs.Elaborates.{Elaborated};
 ghost use Rattle.hc_plan.specs.Hierarchies.{AreCalled, IsHierarchyFor};
 ghost use Rattle.hc_signal.specs.Occurrences.{HasCombLoop};
 ghost use Rattle.hc_signal.specs.Tree.{graph};
-ghost use Rattle.hc_words.specs.declared.job.Verb.TheVariants as verb;
+ghost use Rattle.hc_words.specs.declared.job.Verb.TheVariants as verbs;
 ghost use Rattle.hc_output.specs.Output.{IsServed, IsVerilogFor};
 ghost use Rattle.hc_output.specs.Prepared.{HasOutput, IsFlatOf, IsReady};
 
@@ -74,7 +74,7 @@ fn verilog_output(
     requires elaboration { IsElaboration db.now.entries hier.now }
     requires steps { AreStepsFor (graph (unfolding_of db.now.entries (hier_view hier.now).own.entry)).ports.inputs bench.now.steps }
     ensures ready { IfOk result IsReady }
-    ensures out { IfOk result (λ o. (e : Elaborated) → IsHierarchyFor db.now.entries hier.now e → ¬ HasCombLoop e.tree → HasOutput verb.Verilog flat title.now e bench.now.steps o) }
+    ensures out { IfOk result (λ o. (e : Elaborated) → IsHierarchyFor db.now.entries hier.now e → ¬ HasCombLoop e.tree → HasOutput verbs.Verilog flat title.now e bench.now.steps o) }
 {
     benches_have_runs();
     let text = verilog_text(alloc, flat, title, db, hier)?;
@@ -93,7 +93,7 @@ fn stat_output(
     requires elaboration { IsElaboration db.now.entries hier.now }
     requires steps { AreStepsFor (graph (unfolding_of db.now.entries (hier_view hier.now).own.entry)).ports.inputs bench.now.steps }
     ensures ready { IfOk result IsReady }
-    ensures out { IfOk result (λ o. (e : Elaborated) → IsHierarchyFor db.now.entries hier.now e → AreCalled db.now.entries hier.now → ¬ HasCombLoop e.tree → HasOutput verb.Stat flat title.now e bench.now.steps o) }
+    ensures out { IfOk result (λ o. (e : Elaborated) → IsHierarchyFor db.now.entries hier.now e → AreCalled db.now.entries hier.now → ¬ HasCombLoop e.tree → HasOutput verbs.Stat flat title.now e bench.now.steps o) }
 {
     benches_have_runs();
     let text = summary(alloc, db, hier, bench)?;
@@ -112,7 +112,7 @@ fn sim_output(
     requires elaboration { IsElaboration db.now.entries hier.now }
     requires steps { AreStepsFor (graph (unfolding_of db.now.entries (hier_view hier.now).own.entry)).ports.inputs bench.steps }
     ensures ready { IfOk result IsReady }
-    ensures out { IfOk result (λ o. (e : Elaborated) → IsHierarchyFor db.now.entries hier.now e → HasOutput verb.Sim flat title.now e bench.steps o) }
+    ensures out { IfOk result (λ o. (e : Elaborated) → IsHierarchyFor db.now.entries hier.now e → HasOutput verbs.Sim flat title.now e bench.steps o) }
 {
     benches_have_runs();
     flat_graphs_run_alike();
@@ -137,7 +137,7 @@ fn both_output(
     requires elaboration { IsElaboration db.now.entries hier.now }
     requires steps { AreStepsFor (graph (unfolding_of db.now.entries (hier_view hier.now).own.entry)).ports.inputs bench.steps }
     ensures ready { IfOk result IsReady }
-    ensures out { IfOk result (λ o. (e : Elaborated) → IsHierarchyFor db.now.entries hier.now e → HasOutput verb.Both flat title.now e bench.steps o) }
+    ensures out { IfOk result (λ o. (e : Elaborated) → IsHierarchyFor db.now.entries hier.now e → HasOutput verbs.Both flat title.now e bench.steps o) }
 {
     benches_have_runs();
     flat_graphs_run_alike();
@@ -167,7 +167,7 @@ pub fn prepare_output(
     requires served { IsServed verb }
     requires steps { AreStepsFor (graph (unfolding_of db.now.entries (hier_view hier.now).own.entry)).ports.inputs bench.steps }
     ensures ready { IfOk result IsReady }
-    ensures out { IfOk result (λ o. (e : Elaborated) → IsHierarchyFor db.now.entries hier.now e → (verb ≡ verb.Stat → AreCalled db.now.entries hier.now) → ¬ HasCombLoop e.tree → HasOutput verb flat title.now e bench.steps o) }
+    ensures out { IfOk result (λ o. (e : Elaborated) → IsHierarchyFor db.now.entries hier.now e → (verb ≡ verbs.Stat → AreCalled db.now.entries hier.now) → ¬ HasCombLoop e.tree → HasOutput verb flat title.now e bench.steps o) }
 {
     match verb {
         Verb::Verilog => verilog_output(alloc, flat, title, db, hier, &bench),

@@ -2,3 +2,4 @@ pub mod Naming
 pub mod Outputs
 pub mod Runs
 pub mod Sends
+pub mod FlatTexts

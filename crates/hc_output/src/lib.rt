@@ -2,12 +2,14 @@
 #![tactic(auto)]
 
 mod flat;
+mod flat_laws;
 mod kinds;
 mod laws;
 mod make;
 mod modules;
 mod send;
 
+pub use flat_laws::flat_texts_exist;
 pub use kinds::Output;
 pub use laws::outputs_are_single;
 pub use make::prepare_output;

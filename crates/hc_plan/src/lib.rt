@@ -1,6 +1,7 @@
 //! The distinct calls of a design, each with its body, or the first fault that the tree of calls shows.
 #![tactic(auto)]
 
+mod answer_laws;
 mod called_laws;
 mod deep;
 mod depth_first;
@@ -12,7 +13,9 @@ mod lookup;
 mod rows;
 mod step;
 mod sums;
+mod whole_laws;
 
+pub use answer_laws::designs_have_answers;
 pub use called_laws::{calls_stand_for_calls, entries_are_called};
 pub use depth_first::plan;
 pub use ending::conclude;
@@ -24,3 +27,4 @@ pub use laws::{
 };
 pub use step::{Step, form_of};
 pub use sums::Sums;
+pub use whole_laws::{elaborated_circuits_are_checked, elaborated_trees_are_light, elaborated_trees_are_whole};

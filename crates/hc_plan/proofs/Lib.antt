@@ -35,3 +35,4 @@ pub mod Outs
 pub mod Called
 pub mod CheckedTrees
 pub mod LightTrees
+pub mod KidCalls

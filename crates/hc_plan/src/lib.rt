@@ -7,6 +7,7 @@ mod deep;
 mod depth_first;
 mod ending;
 mod hierarchy;
+mod kid_laws;
 pub mod kinds;
 mod laws;
 mod lookup;
@@ -20,6 +21,7 @@ pub use called_laws::{calls_stand_for_calls, entries_are_called};
 pub use depth_first::plan;
 pub use ending::conclude;
 pub use hierarchy::hier_of;
+pub use kid_laws::trees_are_called;
 pub use laws::{
     calls_are_not_below_themselves, calls_met_again, deep_calls_stop, designs_elaborate_once,
     distinct_calls_decide, elaborated_trees, equal_calls_are_alike, loops_come_first, plans_decide,

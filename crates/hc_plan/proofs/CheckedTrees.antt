@@ -1,6 +1,6 @@
 -- Each circuit of the tree of what elaborates is checked.
 use Rattle.std.proofs.Common.{◌≡◌, ℕ, zero, suc, List, [], ◌∷◌, ap, subst, refl}
-use Rattle.std.specs.Prelude.{slice_get, Result, Ok, Err, ℤ}
+use Rattle.std.specs.Prelude.{slice_get, Result, Ok, ℤ}
 use Rattle.hc_fault.specs.declared.fault.Fault.{Fault}
 use Rattle.hc_fault.specs.declared.fault.Path.{Path}
 use Rattle.hc_lang.specs.declared.tree.CircuitText.{CircuitText}
@@ -13,7 +13,7 @@ use Rattle.hc_statements.specs.declared.kinds.Child.{Child}
 use Rattle.hc_body.specs.BodyOf.{BodyOf, body_of, broken, many_ports, no_outputs, undriven}
 use Rattle.hc_body.specs.BodyOf as body
 use Rattle.hc_body.specs.declared.kinds.Body.{Body}
-use Rattle.hc_plan.specs.Elaborates.{DesignFinishes, ElaborateChildren, Elaborated, Elaborates, FinishedCall, Sums, body_fault, body_tree, called, child_fault, comb_loop, elaborated_call, fault_in_child, later_fault, many_words, no_call, no_more, one_more, past_limit, too_deep, tree_of_kid, whole}
+use Rattle.hc_plan.specs.Elaborates.{DesignFinishes, ElaborateChildren, Elaborated, Elaborates, FinishedCall, Sums, body_fault, called, child_fault, comb_loop, elaborated_call, fault_in_child, later_fault, many_words, no_more, one_more, past_limit, too_deep, tree_of_kid, whole}
 
 -- ---- trees
 

@@ -1,6 +1,6 @@
 -- The tree of what elaborates is no heavier than its sums say.
-use Rattle.std.proofs.Common.{◌≡◌, ◌⊎◌, inl, inr, ℕ, zero, suc, ◌+◌, ◌<◌, ◌≤◌, Bool, true, false, List, [], ◌∷◌, length, refl, sym, ap, subst, ◌∙◌, arith}
-use Rattle.std.specs.Prelude.{nat_lt, if◌then◌else◌, slice_get, Option, Some, None, Result, Ok, Err, ℤ}
+use Rattle.std.proofs.Common.{◌≡◌, ◌⊎◌, inl, inr, ℕ, zero, suc, ◌+◌, ◌≤◌, Bool, true, false, List, [], ◌∷◌, length, refl, sym, ap, subst, ◌∙◌, arith}
+use Rattle.std.specs.Prelude.{nat_lt, if◌then◌else◌, slice_get, Option, Some, None, Result, Ok, ℤ}
 use Rattle.std.proofs.lemmas.Bool.{ltb-false}
 use Rattle.hc_fault.specs.declared.fault.Fault.{Fault}
 use Rattle.hc_fault.specs.declared.fault.FaultKind.{FaultKind}
@@ -8,7 +8,6 @@ use Rattle.hc_fault.specs.declared.fault.FaultKind.TheVariants.{DesignWeight, De
 use Rattle.hc_fault.specs.declared.fault.Path.{Path}
 use Rattle.hc_lang.specs.declared.tree.CircuitText.{CircuitText}
 use Rattle.hc_lang.specs.declared.tree.Design.{Design}
-use Rattle.hc_signal.specs.declared.signal.Instance.{Instance}
 use Rattle.hc_signal.specs.Tree.{Tree, graph}
 use Rattle.hc_signal.specs.Weight.{graph_weight}
 use Rattle.hc_statements.specs.declared.kinds.Call.{Call}
@@ -18,7 +17,7 @@ use Rattle.hc_statements.specs.Unrolled.{unrolled}
 use Rattle.hc_body.specs.BodyOf.{BodyOf, IsCallOf, body_of, broken, many_ports, no_outputs, undriven}
 use Rattle.hc_body.specs.BodyOf as body
 use Rattle.hc_body.specs.declared.kinds.Body.{Body}
-use Rattle.hc_plan.specs.Elaborates.{DesignFinishes, ElaborateChildren, Elaborated, Elaborates, FinishedCall, Sums, body_fault, body_tree, called, child_fault, comb_loop, elaborated_call, fault_in_child, later_fault, limit_passed, many_words, most_instances, most_weight, most_words, no_call, no_more, one_more, own_sums, past_limit, plus, too_deep, tree_of_kid, whole}
+use Rattle.hc_plan.specs.Elaborates.{DesignFinishes, ElaborateChildren, Elaborated, Elaborates, FinishedCall, Sums, body_fault, called, child_fault, comb_loop, elaborated_call, fault_in_child, later_fault, limit_passed, many_words, most_instances, most_weight, most_words, no_more, one_more, own_sums, past_limit, plus, too_deep, tree_of_kid, whole}
 use Rattle.hc_plan.specs.Light.{sum_below, tree_weight}
 use Rattle.hc_plan.proofs.Right.{HaveChildren}
 

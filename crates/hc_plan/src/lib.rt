@@ -29,4 +29,6 @@ pub use laws::{
 };
 pub use step::{Step, form_of};
 pub use sums::Sums;
-pub use whole_laws::{elaborated_circuits_are_checked, elaborated_trees_are_light, elaborated_trees_are_whole};
+pub use whole_laws::{
+    elaborated_circuits_are_checked, elaborated_trees_are_light, elaborated_trees_are_whole,
+};

@@ -26,7 +26,8 @@ IsTreeOfCall calls t = (c : ElaboratedCall) × Has calls c × (t ≡ c.tree)
 
 -- each instance of each call has the tree of a call of the second list
 abbrev HaveKidsAmong : List ElaboratedCall → List ElaboratedCall → Type 0
-HaveKidsAmong calls all = (call : ElaboratedCall) → Has calls call → (i : ℕ) (it : Instance) → slice_get (graph call.tree).instances i ≡ Some it → IsTreeOfCall all (kid call.tree i)
+HaveKidsAmong calls all =
+    (call : ElaboratedCall) → Has calls call → (i : ℕ) (it : Instance) → slice_get (graph call.tree).instances i ≡ Some it → IsTreeOfCall all (kid call.tree i)
 
 record IsClosed (e : Elaborated) : Type 0 where
   own : IsTreeOfCall e.calls e.tree
@@ -58,7 +59,8 @@ more_closed k kids own rest x (later h) = rest x h
 
 -- ---- a body over its kids
 
-module _ (call : Call) (c : CircuitText) (b : Body) (sums : Sums) (kids : List Elaborated) (many : length kids ≡ length b.circuit.instances) (closed : AreClosed kids) where
+module _ (call : Call) (c : CircuitText) (b : Body) (sums : Sums) (kids : List Elaborated)
+    (many : length kids ≡ length b.circuit.instances) (closed : AreClosed kids) where
   abbrev own : ElaboratedCall
   own = own_call call c b sums kids
 
@@ -78,7 +80,8 @@ module _ (call : Call) (c : CircuitText) (b : Body) (sums : Sums) (kids : List E
 
   all_kids : HaveKidsAmong all all
   all_kids x h i it there = elim (has_cases (calls_of kids) (own ∷ []) h) [
-    | inl below ↦ (let r : (k : Elaborated) × Has kids k × Has k.calls x = from_calls kids x below in from_kid r.0 r.1 (kid x.tree i) ((closed r.0 r.1).kids x r.2 i it there))
+    | inl below ↦ (let r : (k : Elaborated) × Has kids k × Has k.calls x = from_calls kids x below in
+        from_kid r.0 r.1 (kid x.tree i) ((closed r.0 r.1).kids x r.2 i it there))
     | inr last ↦ (let is : x ≡ own = only last in
         subst (λ (y : ElaboratedCall). IsTreeOfCall all (kid y.tree i)) (sym is) (own_kids i it (subst (λ (y : ElaboratedCall). slice_get (graph y.tree).instances i ≡ Some it) is there)))
   ]
@@ -115,11 +118,15 @@ module _ (L : Tree → Type 0) (d : Design) (have_children : HaveChildren d) whe
     reached_kid none w c i r = absurd w
     reached_kid (tree g kids) w (c, h, is) i r =
         let row : HasRow g (inst i) = reached_row g w.0 r in
-        (subst (λ (t : Tree). IsTreeOfCall e.calls (kid t i)) (sym is) (kids_called c h i row.0 (subst (λ (t : Tree). slice_get (graph t).instances i ≡ Some row.0) is row.1)), (w.1 i row.0 row.1).1)
+        let there : slice_get (graph c.tree).instances i ≡ Some row.0 = subst (λ (t : Tree). slice_get (graph t).instances i ≡ Some row.0) is row.1 in
+        (subst (λ (t : Tree). IsTreeOfCall e.calls (kid t i)) (sym is) (kids_called c h i row.0 there), (w.1 i row.0 row.1).1)
 
+    -- what a path from the top comes to
     reached_both : IsWhole e.tree → (path : List ℕ) → IsReachedPath e.tree path → IsTreeOfCall e.calls (tree_at e.tree path) × IsWhole (tree_at e.tree path)
     reached_both w [] r = (top_called, w)
-    reached_both w (i ∷ path) r = let up : IsTreeOfCall e.calls (tree_at e.tree path) × IsWhole (tree_at e.tree path) = reached_both w path r.0 in reached_kid (tree_at e.tree path) up.1 up.0 i r.1
+    reached_both w (i ∷ path) r =
+        let up : IsTreeOfCall e.calls (tree_at e.tree path) × IsWhole (tree_at e.tree path) = reached_both w path r.0 in
+        reached_kid (tree_at e.tree path) up.1 up.0 i r.1
 
     -- each reached tree is that of a call
     pub reached_called : IsWhole e.tree → (path : List ℕ) → IsReachedPath e.tree path → IsTreeOfCall e.calls (tree_at e.tree path)

@@ -14,8 +14,13 @@ use hc_body::laws::bodies_have_their_children;
 /// each tree that the top reaches.
 pub fn trees_are_called()
     ensures top { (d : Design) (e : Elaborated) → DesignElaborates d (Ok e) → (c : ElaboratedCall) × Has e.calls c × (e.tree ≡ c.tree) }
-    ensures kids { (d : Design) (e : Elaborated) → DesignElaborates d (Ok e) → (call : ElaboratedCall) → Has e.calls call → (i : ℕ) (it : Instance) → slice_get (graph call.tree).instances i ≡ Some it → (c : ElaboratedCall) × Has e.calls c × (kid call.tree i ≡ c.tree) }
-    ensures reached { (d : Design) (e : Elaborated) → DesignElaborates d (Ok e) → (path : List ℕ) → IsReachedPath e.tree path → (c : ElaboratedCall) × Has e.calls c × (tree_at e.tree path ≡ c.tree) }
+    ensures kids { (d : Design) (e : Elaborated) → DesignElaborates d (Ok e)
+        → (call : ElaboratedCall) → Has e.calls call
+        → (i : ℕ) (it : Instance) → slice_get (graph call.tree).instances i ≡ Some it
+        → (c : ElaboratedCall) × Has e.calls c × (kid call.tree i ≡ c.tree) }
+    ensures reached { (d : Design) (e : Elaborated) → DesignElaborates d (Ok e)
+        → (path : List ℕ) → IsReachedPath e.tree path
+        → (c : ElaboratedCall) × Has e.calls c × (tree_at e.tree path ≡ c.tree) }
 {
     bodies_have_their_children();
     elaborated_trees_are_whole();

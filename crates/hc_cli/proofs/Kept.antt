@@ -38,21 +38,21 @@ HaveOneEntry = (h : History) (i j : EntryId) (t : Tree) → IsLegal h → i.0 < 
 -- ---- the history of calls
 
 module _ (stand : StandForCalls) (stood_for : HaveCalls) (one_entry : HaveOneEntry) (h : History) (hier : Hier) (e : Elaborated) (legal : IsLegal h) (for : IsHierarchyFor h.entries hier e) where
-  once_of : (c : ElaboratedCall) → Has e.calls c → IsOnce h.entries c.tree
+  pub once_of : (c : ElaboratedCall) → Has e.calls c → IsOnce h.entries c.tree
   once_of c has =
       let view = stood_for h.entries hier e c for has in
       let over = for.elaboration.calls view.0 view.1 in
       let within = slice_get_within h.entries view.0.own.entry.0 over.form over.found in
       (view.0.own.entry, (within, view.2.tree), λ other is. one_entry h other view.0.own.entry c.tree legal is.0 within is.1 view.2.tree)
 
-  only_calls : AreCalled h.entries hier → (id : EntryId) → id.0 < length h.entries → (c : ElaboratedCall) × Has e.calls c × Denotes h.entries id c.tree
+  pub only_calls : AreCalled h.entries hier → (id : EntryId) → id.0 < length h.entries → (c : ElaboratedCall) × Has e.calls c × Denotes h.entries id c.tree
   only_calls called id within =
       let view = called id within in
       let call = stand h.entries hier e view.0 for view.1 in
       (call.0, call.1, subst (λ (id : EntryId). Denotes h.entries id call.0.tree) view.2 call.2.tree)
 
   -- turns of the distinct calls, in some order
-  pub history_is : (firsts order : List ElaboratedCall) → AreDistinct e.calls firsts → IsPermutation order firsts → AreEntriesOf h.entries (entries_named h) order → AreCalled h.entries hier → IsHistoryOf h e.calls
+  abbrev pub history_is : (firsts order : List ElaboratedCall) → AreDistinct e.calls firsts → IsPermutation order firsts → AreEntriesOf h.entries (entries_named h) order → AreCalled h.entries hier → IsHistoryOf h e.calls
   history_is firsts order distinct shuffled turns called = record {
     legal = legal;
     firsts = firsts;
@@ -97,7 +97,7 @@ none_legal = record {
   kids = λ k form id a h. cc;
 }
 
-no_calls : IsHistoryOf no_history []
+abbrev no_calls : IsHistoryOf no_history []
 no_calls = record {
   legal = none_legal;
   firsts = [];

@@ -32,10 +32,7 @@ fn finish(
     ensures same { OnErr result (db.new ≡ db.old) }
 {
     entries_keep_their_forms();
-    let step = match form_of(alloc, row, outs) {
-        Ok(step) => step,
-        Err(refused) => return Err(refused),
-    };
+    let step = form_of(alloc, row, outs)?;
     match step {
         Step::Ready(form, paths) => match db.insert(form) {
             Ok(id) => Ok(Some((id, paths))),
@@ -84,10 +81,7 @@ pub fn elab_one(alloc: Global, design: &Design, db: &mut DbState) -> Result<Hier
         Ok(plan) => plan,
         Err(refused) => return Err(refused),
     };
-    let outs = match finish_rows(alloc, design, &plan, db) {
-        Ok(outs) => outs,
-        Err(NoMemory) => return Err(Refused::NoMemory),
-    };
+    let outs = finish_rows(alloc, design, &plan, db)?;
     db.legal();
     match conclude(alloc, design, plan, outs) {
         Ok(hier) => Ok(hier),

@@ -21,8 +21,12 @@ AreAllChecked t = (path : List ℕ) → IsWhole (tree_at t path) → IsChecked (
 
 good_of : (t : Tree) → IsWhole t → AreAllChecked t → IsGood t
 good_of none w checked = absurd w
-good_of (tree g kids) w checked = (w.0, checked [] w, λ i it e.
-    ((w.1 i it e).0, good_of (kids i) (w.1 i it e).1 (λ path. subst (λ s. IsWhole s → IsChecked (graph s)) (tree_from (tree g kids) i path) (checked (path ++ i ∷ [])))))
+good_of (tree g kids) w checked = (
+  w.0,
+  checked [] w,
+  λ i it e.
+      ((w.1 i it e).0, good_of (kids i) (w.1 i it e).1 (λ path. subst (λ s. IsWhole s → IsChecked (graph s)) (tree_from (tree g kids) i path) (checked (path ++ i ∷ [])))),
+)
 
 pub flat_exists : (t : Tree) → IsWhole t → AreAllChecked t → IsFlat t (flat_graph t)
 flat_exists t w checked = is_flat t (good_of t w checked)

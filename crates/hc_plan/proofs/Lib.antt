@@ -35,4 +35,5 @@ pub mod Outs
 pub mod Called
 pub mod CheckedTrees
 pub mod LightTrees
-pub mod KidCalls
+pub mod ClosedCalls
+pub mod ReachedCalls

@@ -226,12 +226,7 @@ fn benches_end_as_told(rt: HostRuntime) -> Result<(), Fail> {
             0,
             "instances 65536\nentries 3\nmodules 3\nweight 524284\nwords 0\ncycles 0\n",
         ),
-        (
-            "stat",
-            OVERFULL,
-            1,
-            "F30 TooManyInstances line 15 path /\n",
-        ),
+        ("stat", OVERFULL, 1, "F30 TooManyInstances line 15 path /\n"),
     ];
     for (words, text, status, written) in rows {
         let ran = run(&rt, rt.alloc(), words, text.as_bytes(), None, 2000)?;

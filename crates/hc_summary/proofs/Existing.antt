@@ -1,5 +1,5 @@
 -- Summaries exist. Whether two trees are the same is not decided here, so that each number of kinds is told by contradiction.
-use Rattle.std.proofs.Common.{◌≡◌, ◌⊎◌, inl, inr, ℕ, zero, suc, List, [], ◌∷◌, map, length, refl, sym, ap, subst}
+use Rattle.std.proofs.Common.{◌≡◌, ◌⊎◌, inl, inr, ℕ, zero, suc, List, [], ◌∷◌, map, length, refl, sym, ap, subst, ◌∙◌}
 use Rattle.hc_bench.specs.Listing.{CycleRow}
 use Rattle.hc_plan.specs.Elaborates.{Elaborated, ElaboratedCall}
 use Rattle.hc_signal.specs.Member.{Has, first, later}
@@ -105,10 +105,12 @@ call_among calls t (call, has, is) = subst (Has (trees_of calls)) (sym is) (has_
 
 -- each tree that the top reaches is that of a call
 abbrev pub ReachedAreCalled : Elaborated → Type 0
-ReachedAreCalled e = (path : List ℕ) → IsReachedPath e.tree path → IsCallTree e.calls (tree_at e.tree path)
+ReachedAreCalled e = (path : List ℕ) → IsReachedPath e.tree path → (c : ElaboratedCall) × Has e.calls c × (c.tree ≡ tree_at e.tree path)
 
 reached_among : (e : Elaborated) → ReachedAreCalled e → (t : Tree) → IsReachedTree e.tree t → Has (trees_of e.calls) t
-reached_among e called t (path, reached, is) = subst (Has (trees_of e.calls)) (sym is) (call_among e.calls (tree_at e.tree path) (called path reached))
+reached_among e called t (path, reached, is) =
+    let c : (c : ElaboratedCall) × Has e.calls c × (c.tree ≡ tree_at e.tree path) = called path reached in
+    call_among e.calls t (c.0, c.1, is ∙ sym c.2)
 
 counts_of : Elaborated → List CycleRow → ℕ → ℕ → Counts
 counts_of e rows entries modules = record { instances = e.sums.instances; entries = entries; modules = modules; weight = e.sums.weight; words = e.sums.words; cycles = length rows }

@@ -6,7 +6,7 @@ ghost use Rattle.hc_plan.specs.Elaborates.{DesignElaborates, Elaborated};
 ghost use Rattle.hc_summary.specs.Summary.{IsSummary};
 
 use hc_canon::same_is_an_equivalence;
-use hc_plan::trees_are_called;
+use hc_plan::reached_trees_are_called;
 
 /// No elaborated design with its rows is without a summary.
 pub fn summaries_exist()
@@ -14,5 +14,5 @@ pub fn summaries_exist()
         → (((text : List ℕ) × IsSummary e rows text) → ⊥) → ⊥ }
 {
     same_is_an_equivalence();
-    trees_are_called();
+    reached_trees_are_called();
 }

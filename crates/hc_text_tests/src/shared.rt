@@ -21,15 +21,30 @@ fn names_and_faults_are_shared(_rt: HostRuntime) -> Result<(), Fail> {
 }
 
 #[test]
-fn designs_are_shared(_rt: HostRuntime) -> Result<(), Fail> {
+fn lines_are_shared(_rt: HostRuntime) -> Result<(), Fail> {
     is_shared::<Num>();
-    is_shared::<Sig>();
-    is_shared::<Stmt>();
     is_shared::<Head>();
-    is_shared::<CircuitText>();
     is_shared::<TopLine>();
     is_shared::<BenchWhat>();
     is_shared::<BenchLine>();
+    Ok(())
+}
+
+#[test]
+fn signals_are_shared(_rt: HostRuntime) -> Result<(), Fail> {
+    is_shared::<Sig>();
+    Ok(())
+}
+
+#[test]
+fn statements_are_shared(_rt: HostRuntime) -> Result<(), Fail> {
+    is_shared::<Stmt>();
+    Ok(())
+}
+
+#[test]
+fn designs_are_shared(_rt: HostRuntime) -> Result<(), Fail> {
+    is_shared::<CircuitText>();
     is_shared::<Design>();
     Ok(())
 }

@@ -16,10 +16,10 @@ returns-in-Err c = serves_broken IsHistoryInOrder no_calls_in_order c.args.job.n
 pub returns-in-Ok : goal.returns-in-Ok
 returns-in-Ok c =
     let db = c.elab_one.new.db in
-    let legal = c.legal-in-Ok.ensures in
+    let legal = c.legal.ensures in
     let e = c.in-Ok.ensures.hierarchy in
     let logs = subst (λ (h : History). LogsDistinct h db e.0) c.new-db.ensures e.3 in
-    let law = c.elaborations_have_histories-in-Ok.ensures in
+    let law = c.elaborations_have_histories.ensures in
     let called = law.called db c.in-Ok.hier e.0 legal e.2 logs in
     let history = law.history db c.in-Ok.hier e.0 legal e.2 logs in
-    IfOk-weaker c.prepare_elaborated-in-Ok.result _ _ (λ p s. s e.0 e.1 e.2 called history (sym c.holds_op.ensures ∙ c.if-holds_op.false)) c.prepare_elaborated-in-Ok.ensures
+    IfOk-weaker c.prepare_elaborated.result _ _ (λ p s. s e.0 e.1 e.2 called history (sym c.holds_op.ensures ∙ c.if-holds_op.false)) c.prepare_elaborated.ensures

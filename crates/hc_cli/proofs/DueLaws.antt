@@ -31,9 +31,8 @@ use Rattle.hc_cli.specs.declared.prepared.Kept.{Kept}
 use Rattle.hc_cli.specs.declared.prepared.Prepared.{Prepared}
 use Rattle.hc_cli.specs.declared.prepared.Prepared.TheVariants as is
 use Rattle.hc_cli.specs.Clauses.{EndsInput}
-use Rattle.hc_cli.specs.Due.{Due, IsDesignDue, IsDue, IsTextDue, asked, bench_broken, broken, done, faulty, not_built, operation, parsed, refusal, refused, text_fault, told, too_long, whole}
+use Rattle.hc_cli.specs.Due.{Due, IsDesignDue, IsDue, IsTextDue, asked, bench_broken, broken, done, faulty, parsed, refusal, refused, text_fault, told, too_long, whole}
 use Rattle.hc_cli.specs.Histories.{HistoryRule, no_history}
-use Rattle.hc_cli.specs.OpUse.{holds_op}
 use Rattle.hc_cli.specs.Prepared.{IsBenchToldOf, IsToldOf, Serves, ServesDesign, ServesInput, ServesLeft, ServesText, history_in}
 
 -- ---- what serves what is due
@@ -54,9 +53,6 @@ module _ (Rule : HistoryRule) (no_calls : Rule no_history []) where
 
   pub serves_told : (f : Fault) → Serves Rule (is.Told f) (told f [])
   serves_told f = record { status = refl; out = refl; history = no_calls; ready = tt }
-
-  pub serves_not_built : Serves Rule is.NotBuilt not_built
-  serves_not_built = record { status = refl; out = refl; history = no_calls; ready = tt }
 
   pub long_text : (job : Job) (text : List ℕ) → 4194304 < length text → ServesText Rule job text (is.Told (text_fault TooLong 0))
   long_text job text long = (told (text_fault TooLong 0) [], too_long long, serves_told (text_fault TooLong 0))
@@ -80,26 +76,23 @@ module _ (Rule : HistoryRule) (no_calls : Rule no_history []) where
 
   -- ---- designs
 
-  pub serves_operation : (job : Job) (d : Design) → holds_op d ≡ true → ServesDesign Rule job d is.NotBuilt
-  serves_operation job d holds = (not_built, operation holds, serves_not_built)
+  serves_bench : (job : Job) (d : Design) (e : Elaborated) (f : Fault) (k : Kept) → DesignElaborates d (Ok e) → steps_of d (graph e.tree).ports ≡ Err f → Rule (history_in k) e.calls → ServesDesign Rule job d (is.BenchTold f k)
+  serves_bench job d e f k elaborates fault history = (told f e.calls, bench_broken e f elaborates fault, record { status = refl; out = refl; history = history; ready = tt })
 
-  serves_bench : (job : Job) (d : Design) (e : Elaborated) (f : Fault) (k : Kept) → holds_op d ≡ false → DesignElaborates d (Ok e) → steps_of d (graph e.tree).ports ≡ Err f → Rule (history_in k) e.calls → ServesDesign Rule job d (is.BenchTold f k)
-  serves_bench job d e f k none elaborates fault history = (told f e.calls, bench_broken e f none elaborates fault, record { status = refl; out = refl; history = history; ready = tt })
+  pub serves_refused : (job : Job) (d : Design) (e : Elaborated) (r : Refused) (k : Kept) (p : Prepared) → DesignElaborates d (Ok e) → Refuses r (steps_of d (graph e.tree).ports) → IsBenchToldOf r k p → Rule (history_in k) e.calls → ServesDesign Rule job d p
+  serves_refused job d e (refusals.Fault f) k p elaborates fault same history = subst (ServesDesign Rule job d) (sym same) (serves_bench job d e f k elaborates fault history)
+  serves_refused job d e refusals.NoMemory k p elaborates fault same history = absurd same
 
-  pub serves_refused : (job : Job) (d : Design) (e : Elaborated) (r : Refused) (k : Kept) (p : Prepared) → holds_op d ≡ false → DesignElaborates d (Ok e) → Refuses r (steps_of d (graph e.tree).ports) → IsBenchToldOf r k p → Rule (history_in k) e.calls → ServesDesign Rule job d p
-  serves_refused job d e (refusals.Fault f) k p none elaborates fault same history = subst (ServesDesign Rule job d) (sym same) (serves_bench job d e f k none elaborates fault history)
-  serves_refused job d e refusals.NoMemory k p none elaborates fault same history = absurd same
-
-  pub serves_whole : (job : Job) (d : Design) (e : Elaborated) (steps : List Step) (o : Output) (k : Kept) → holds_op d ≡ false → DesignElaborates d (Ok e) → IsWhole e.tree → steps_of d (graph e.tree).ports ≡ Ok steps
+  pub serves_whole : (job : Job) (d : Design) (e : Elaborated) (steps : List Step) (o : Output) (k : Kept) → DesignElaborates d (Ok e) → IsWhole e.tree → steps_of d (graph e.tree).ports ≡ Ok steps
       → HasOutput job.verb job.flat d.top.name e steps o → IsReady o → Rule (history_in k) e.calls → ServesDesign Rule job d (is.Whole o k)
-  serves_whole job d e steps o k none elaborates tree given (rows, out, run, output, text) ready history =
-      (done e.calls out, whole e steps rows out none elaborates tree given run output, record { status = refl; out = text; history = history; ready = ready })
+  serves_whole job d e steps o k elaborates tree given (rows, out, run, output, text) ready history =
+      (done e.calls out, whole e steps rows out elaborates tree given run output, record { status = refl; out = text; history = history; ready = ready })
 
-  pub serves_broken : (job : Job) (d : Design) (r : Refused) (result : Result Prepared NoMemory) → holds_op d ≡ false → FaultIs (λ f. DesignElaborates d (Err f)) r → IfOk result (IsToldOf r) → IfOk result (ServesDesign Rule job d)
-  serves_broken job d r result none fault are = IfOk-weaker result _ _ (λ p told_of. by r p fault told_of) are
+  pub serves_broken : (job : Job) (d : Design) (r : Refused) (result : Result Prepared NoMemory) → FaultIs (λ f. DesignElaborates d (Err f)) r → IfOk result (IsToldOf r) → IfOk result (ServesDesign Rule job d)
+  serves_broken job d r result fault are = IfOk-weaker result _ _ (λ p told_of. by r p fault told_of) are
     where
       by : (r : Refused) (p : Prepared) → FaultIs (λ f. DesignElaborates d (Err f)) r → IsToldOf r p → ServesDesign Rule job d p
-      by (refusals.Fault f) p fault same = subst (ServesDesign Rule job d) (sym same) (told f [], broken f none fault, serves_told f)
+      by (refusals.Fault f) p fault same = subst (ServesDesign Rule job d) (sym same) (told f [], broken f fault, serves_told f)
       by refusals.NoMemory p fault same = absurd same
 
   -- ---- texts
@@ -116,9 +109,6 @@ module _ (Rule : HistoryRule) (no_calls : Rule no_history []) where
       by refusals.NoMemory p answer same = absurd same
 
 -- ---- at most one is due
-
-not_both : (b : Bool) → b ≡ true → b ≡ false → ⊥
-not_both b t f = cc
 
 ok_err : {A F : Type 0} (x : A) (f : F) → ◌≡◌ {A = Result A F} (Ok x) (Err f) → ⊥
 ok_err x f e = cc
@@ -168,22 +158,15 @@ module _ (one_job : (words : List (List ℕ)) (a b : Job) → IsJob words a → 
       ap₂ (λ (k : Elaborated) (l : List ℕ). done k.calls l) same (outputs_once job d g steps others rows more a b y w given t rows_here ran out_here p)
 
   design_once : (job : Job) (d : Design) (x y : Due) → IsDesignDue job d x → IsDesignDue job d y → x ≡ y
-  design_once job d x y (operation a) (operation b) = refl
-  design_once job d x y (operation a) (broken f b m) = absurd (not_both _ a b)
-  design_once job d x y (operation a) (bench_broken e f b m n) = absurd (not_both _ a b)
-  design_once job d x y (operation a) (whole e s r o b m w n u v) = absurd (not_both _ a b)
-  design_once job d x y (broken f a k) (operation b) = absurd (not_both _ b a)
-  design_once job d x y (broken f a k) (broken g b m) = ap (λ (h : Fault). told h []) (err_is f g (elaborates_once d (Err f) (Err g) k m))
-  design_once job d x y (broken f a k) (bench_broken e g b m n) = absurd (ok_err e f (elaborates_once d (Ok e) (Err f) m k))
-  design_once job d x y (broken f a k) (whole e s r o b m w n u v) = absurd (ok_err e f (elaborates_once d (Ok e) (Err f) m k))
-  design_once job d x y (bench_broken e f a k l) (operation b) = absurd (not_both _ b a)
-  design_once job d x y (bench_broken e f a k l) (broken g b m) = absurd (ok_err e g (elaborates_once d (Ok e) (Err g) k m))
-  design_once job d x y (bench_broken e f a k l) (bench_broken g h b m n) = told_once d e g f h k m l n
-  design_once job d x y (bench_broken e f a k l) (whole g s r o b m w n u v) = absurd (not_mixed d e g f s k m l n)
-  design_once job d x y (whole e s r o a k w l u v) (operation b) = absurd (not_both _ b a)
-  design_once job d x y (whole e s r o a k w l u v) (broken f b m) = absurd (ok_err e f (elaborates_once d (Ok e) (Err f) k m))
-  design_once job d x y (whole e s r o a k w l u v) (bench_broken g f b m n) = absurd (not_mixed d g e f s m k n l)
-  design_once job d x y (whole e s r o a k w l u v) (whole g t q p b m z n i j) = whole_once job d e g s t r q o p k m z l n u i v j
+  design_once job d x y (broken f k) (broken g m) = ap (λ (h : Fault). told h []) (err_is f g (elaborates_once d (Err f) (Err g) k m))
+  design_once job d x y (broken f k) (bench_broken e g m n) = absurd (ok_err e f (elaborates_once d (Ok e) (Err f) m k))
+  design_once job d x y (broken f k) (whole e s r o m w n u v) = absurd (ok_err e f (elaborates_once d (Ok e) (Err f) m k))
+  design_once job d x y (bench_broken e f k l) (broken g m) = absurd (ok_err e g (elaborates_once d (Ok e) (Err g) k m))
+  design_once job d x y (bench_broken e f k l) (bench_broken g h m n) = told_once d e g f h k m l n
+  design_once job d x y (bench_broken e f k l) (whole g s r o m w n u v) = absurd (not_mixed d e g f s k m l n)
+  design_once job d x y (whole e s r o k w l u v) (broken f m) = absurd (ok_err e f (elaborates_once d (Ok e) (Err f) k m))
+  design_once job d x y (whole e s r o k w l u v) (bench_broken g f m n) = absurd (not_mixed d g e f s m k n l)
+  design_once job d x y (whole e s r o k w l u v) (whole g t q p m z n i j) = whole_once job d e g s t r q o p k m z l n u i v j
 
   text_once : (job : Job) (text : List ℕ) (x y : Due) → IsTextDue job text x → IsTextDue job text y → x ≡ y
   text_once job text x y (too_long a) (too_long b) = refl

@@ -20,7 +20,6 @@ use Rattle.hc_cli.proofs.Kept.{none_legal}
 not_cut : (p : Prepared) → status_of p ≡ 4 → ⊥
 not_cut is.Refusal e = cc
 not_cut (is.Told f) e = cc
-not_cut is.NotBuilt e = cc
 not_cut (is.BenchTold f k) e = cc
 not_cut (is.Whole o k) e = cc
 

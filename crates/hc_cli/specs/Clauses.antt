@@ -15,7 +15,7 @@ history_of o = record { entries = o.entries.items; turns = o.turns.items }
 
 -- a status whose bytes were all written
 abbrev pub IsWritten : ℕ → Type 0
-IsWritten status = (status ≡ 0) ⊎ (status ≡ 1) ⊎ (status ≡ 2) ⊎ (status ≡ 6)
+IsWritten status = (status ≡ 0) ⊎ (status ≡ 1) ⊎ (status ≡ 2)
 
 -- This holds of what is due for the words and the text that the source had left, or for some text where it tells none.
 abbrev pub ForDue : List (List ℕ) → Option (List ℕ) → (Due → Type 0) → Type 0

@@ -1,5 +1,5 @@
 -- What the program has prepared, as what is due.
-use Rattle.std.specs.Prelude.{◌≡◌, ℕ, false, List, [], Option}
+use Rattle.std.specs.Prelude.{◌≡◌, ℕ, List, Option}
 use Rattle.hc_fault.specs.declared.fault.Refused.{Refused}
 use Rattle.hc_fault.specs.declared.fault.Refused.TheVariants as refused
 use Rattle.hc_outside.specs.Moves.{Holds}
@@ -12,7 +12,6 @@ use Rattle.hc_cli.specs.declared.prepared.Prepared.{Prepared}
 use Rattle.hc_cli.specs.declared.prepared.Prepared.TheVariants as is
 use Rattle.hc_cli.specs.Due.{Due, IsDesignDue, IsDue, IsTextDue, refusal}
 use Rattle.hc_cli.specs.FaultLine.{fault_line}
-use Rattle.hc_cli.specs.OpUse.{holds_op}
 use Rattle.hc_cli.specs.Histories.{HistoryRule, no_history}
 
 -- the history that is kept
@@ -22,14 +21,12 @@ history_in k = record { entries = k.entries.items; turns = k.turns.items }
 abbrev pub kept : Prepared → History
 kept is.Refusal = no_history
 kept (is.Told f) = no_history
-kept is.NotBuilt = no_history
 kept (is.BenchTold f k) = history_in k
 kept (is.Whole o k) = history_in k
 
 abbrev pub status_of : Prepared → ℕ
 status_of is.Refusal = 2
 status_of (is.Told f) = 1
-status_of is.NotBuilt = 6
 status_of (is.BenchTold f k) = 1
 status_of (is.Whole o k) = 0
 
@@ -37,7 +34,6 @@ status_of (is.Whole o k) = 0
 abbrev pub IsOutOf : Prepared → List ℕ → Type 0
 IsOutOf is.Refusal out = out ≡ refusal.out
 IsOutOf (is.Told f) out = out ≡ fault_line f
-IsOutOf is.NotBuilt out = out ≡ []
 IsOutOf (is.BenchTold f k) out = out ≡ fault_line f
 IsOutOf (is.Whole o k) out = IsTextOf o out
 
@@ -66,10 +62,6 @@ IsBenchToldOf refused.NoMemory k p = ⊥
 -- this serves what is due for a design; for a text; for what a source had left, or some text where it tells none
 abbrev pub ServesDesign : HistoryRule → Job → Design → Prepared → Type 0
 ServesDesign Rule job design p = (d : Due) × IsDesignDue job design d × Serves Rule p d
-
--- and so for a design without operations
-abbrev pub ServesElaborated : HistoryRule → Job → Design → Prepared → Type 0
-ServesElaborated Rule job design p = holds_op design ≡ false → ServesDesign Rule job design p
 
 abbrev pub ServesText : HistoryRule → Job → List ℕ → Prepared → Type 0
 ServesText Rule job text p = (d : Due) × IsTextDue job text d × Serves Rule p d

@@ -3,7 +3,6 @@
 
 mod fault_line;
 mod histories;
-mod op_use;
 mod prepared;
 mod run;
 

@@ -6,7 +6,7 @@ ghost use Rattle.hc_cli.specs.declared.run.Stop.TheVariants as stop;
 ghost use Rattle.hc_cli.specs.Clauses.{EndsInput, EndsRead, ForDue, IsCut, IsDone, IsDueOrNoMemory, IsWritten, history_of};
 ghost use Rattle.hc_cli.specs.Due.{Due, IsDue};
 ghost use Rattle.hc_cli.specs.Histories.{IsHistoryInOrder, no_history};
-ghost use Rattle.hc_cli.specs.Prepared.{CanSend, IsBenchToldOf, IsToldOf, ServesDesign, ServesElaborated, ServesInput, ServesLeft, ServesText, history_in, kept, status_of};
+ghost use Rattle.hc_cli.specs.Prepared.{CanSend, IsBenchToldOf, IsToldOf, ServesDesign, ServesInput, ServesLeft, ServesText, history_in, kept, status_of};
 ghost use Rattle.hc_bench.specs.Answers.{Answers};
 ghost use Rattle.hc_bench.specs.Steps.{AreStepsFor, steps_of};
 ghost use Rattle.hc_dbstate.specs.Elaboration.{IsElaboration, hier_view};
@@ -20,7 +20,6 @@ ghost use Rattle.hc_signal.specs.Tree.{graph};
 ghost use Rattle.hc_words.specs.Jobs.{IsJob};
 
 use crate::histories::elaborations_have_histories;
-use crate::op_use::holds_op;
 use crate::prepared::{Kept, Prepared, kept_of, send};
 use hc_bench::kinds::Bench;
 use hc_bench::make::bench;
@@ -29,6 +28,7 @@ use hc_dbstate::{DbState, Hier, Turn, walks_are_whole};
 use hc_elab::elab_one;
 use hc_fault::{Fault, FaultKind, NoMemory, Refused};
 use hc_lang::{Design, parse, texts_have_one_answer};
+use hc_ops::OpTable;
 use hc_output::{SendStop, outputs_are_single, prepare_output};
 use hc_outside::{ReadStop, Sink, Source, read_all};
 use hc_plan::{designs_elaborate_once, elaborated_trees};
@@ -37,8 +37,7 @@ use hc_words::{Job, WordStop, one_job, read_words};
 use std::alloc::Global;
 
 /// How a run ended. The statuses: 0 what the command asks for was written; 1 the text has a fault, and its line was written;
-/// 2 the words were refused, and the usage line was written; 3 the source failed; 4 the sink failed; 5 want of memory; 6 the
-/// text needs what is not built yet. The turns and the entries are those of an elaboration without a fault: a turn for each
+/// 2 the words were refused, and the usage line was written; 3 the source failed; 4 the sink failed; 5 want of memory. The turns and the entries are those of an elaboration without a fault: a turn for each
 /// distinct call, with its entry. Both are empty where there is none, and at 3 and 5.
 #[derive(Drop)]
 pub struct Outcome {
@@ -100,7 +99,7 @@ fn prepare_elaborated(
 ) -> Result<Prepared, NoMemory>
     requires elaboration { IsElaboration db.entries hier.now }
     requires served { IsServed job.now.verb }
-    ensures { IfOk result (λ p. (e : Elaborated) → DesignElaborates design.now (Ok e) → IsHierarchyFor db.entries hier.now e → AreCalled db.entries hier.now → IsHistoryInOrder db e.calls → ServesElaborated IsHistoryInOrder job.now design.now p) }
+    ensures { IfOk result (λ p. (e : Elaborated) → DesignElaborates design.now (Ok e) → IsHierarchyFor db.entries hier.now e → AreCalled db.entries hier.now → IsHistoryInOrder db e.calls → ServesDesign IsHistoryInOrder job.now design.now p) }
 {
     elaborated_trees();
     match bench_of(alloc, design, &db, hier) {
@@ -125,9 +124,6 @@ fn prepare_design(alloc: Global, job: &Job, design: &Design) -> Result<Prepared,
     requires { IsServed job.now.verb }
     ensures { IfOk result (ServesDesign IsHistoryInOrder job.now design.now) }
 {
-    if holds_op(design) {
-        return Ok(Prepared::NotBuilt);
-    }
     let mut db = DbState::new(alloc);
     match elab_one(alloc, design, &mut db) {
         Ok(hier) => {
@@ -226,7 +222,6 @@ fn ended(alloc: Global, prepared: Prepared) -> Outcome
     match prepared {
         Prepared::Refusal => empty(alloc, 2),
         Prepared::Told(_) => empty(alloc, 1),
-        Prepared::NotBuilt => empty(alloc, 6),
         Prepared::BenchTold(_, kept) => with_history(1, kept),
         Prepared::Whole(_, kept) => with_history(0, kept),
     }
@@ -254,10 +249,11 @@ fn finished(alloc: Global, sent: Result<(), SendStop>, outcome: Outcome) -> Outc
 pub fn run_one<S: Source, K: Sink>(
     alloc: Global,
     words: &[String],
+    ops: &OpTable,
     input: &mut S,
     output: &mut K,
 ) -> Outcome
-    // Status 0, 1, 2 or 6 is the one that is due, the sink took exactly what is due, and the history is that of the calls
+    // Status 0, 1 or 2 is the one that is due, the sink took exactly what is due, and the history is that of the calls
     // that are due, with the turns in the order of their first places.
     ensures written { IsWritten result.status → ForDue (map string_bytes words.now) (S.left input.old) (IsDone IsHistoryInOrder result (K.taken output.old) (K.taken output.new)) }
     // Status 3 comes only where the source's count rose, and nothing was written.
@@ -268,7 +264,7 @@ pub fn run_one<S: Source, K: Sink>(
     ensures front { result.status ≡ 4 → ForDue (map string_bytes words.now) (S.left input.old) (IsCut IsHistoryInOrder result (K.taken output.old) (K.taken output.new)) }
     // At want of memory nothing was written.
     ensures memory { result.status ≡ 5 → Keeps (K.taken output.old) (K.taken output.new) }
-    ensures range { result.status ≤ 6 }
+    ensures range { result.status ≤ 5 }
     // Where neither count rose, the status is the one that is due or that of want of memory.
     ensures settled { ¬ Rose (S.faults input.old) (S.faults input.new) → ¬ Rose (K.faults output.old) (K.faults output.new) → IsDueOrNoMemory (map string_bytes words.now) (S.left input.old) result.status }
     // Refused words leave the source and its count alone.
@@ -284,7 +280,7 @@ pub fn run_one<S: Source, K: Sink>(
         Err(Stop::Fault) => return empty(alloc, 3),
         Err(Stop::NoMemory) => return empty(alloc, 5),
     };
-    let sent = send(alloc, &prepared, output);
+    let sent = send(alloc, ops, &prepared, output);
     finished(alloc, sent, ended(alloc, prepared))
 }
 

@@ -1,4 +1,6 @@
-ghost use Rattle.std.specs.Prelude.{◌≡◌, [], IfOk};
+ghost use Rattle.std.specs.Prelude.{◌≡◌, [], slice_get, slice_index, slice_set, IfOk, Some};
+ghost use Rattle.hc_bench.specs.Steps.{IsPortValue};
+ghost use Rattle.hc_signal.specs.declared.signal.Port.{Port};
 ghost use Rattle.hc_bench.specs.Trace.{IsAtStart};
 ghost use Rattle.hc_signal.specs.Checked.{IsChecked};
 ghost use Rattle.hc_signal.specs.Occurrences.{HasCombLoop};
@@ -6,6 +8,7 @@ ghost use Rattle.hc_signal.specs.Tree.{leaf};
 ghost use Rattle.hc_flatsim.specs.Machine.{simulation_of};
 
 use crate::machine::FlatMachine;
+use crate::words::zero;
 use hc_bench::Sim;
 use hc_bits::Bits;
 use hc_fault::NoMemory;
@@ -47,8 +50,14 @@ impl<'a> Sim for FlatSim<'a> {
         self.machine.lawful();
     }
 
-    fn set(&mut self, port: u32, value: Bits) {
-        self.machine.set(port, value);
+    // these three ask nothing of their callers: a type that keeps stored closures is handed to generic code by such methods
+    // alone
+    fn set(&mut self, port: u32, value: Bits)
+        ensures { IsPortValue self.old.machine.graph.ports.inputs port value → simulation_of self.new.machine ≡ record (simulation_of self.old.machine) { inputs = slice_set (simulation_of self.old.machine).inputs port value.value } }
+    {
+        if self.machine.may_be_set(port, value) {
+            self.machine.set(port, value);
+        }
     }
 
     fn cycle(&mut self) {
@@ -59,11 +68,23 @@ impl<'a> Sim for FlatSim<'a> {
         self.machine.reset();
     }
 
-    fn before(&self, port: u32) -> Bits {
-        self.machine.before(port)
+    fn before(&self, port: u32) -> Bits
+        ensures { (p : Port) → slice_get self.now.machine.graph.ports.outputs port ≡ Some p → result ≡ record { width = p.width; value = slice_index (simulation_of self.now.machine).before port } }
+    {
+        if self.machine.is_output(port) {
+            self.machine.before(port)
+        } else {
+            zero(1)
+        }
     }
 
-    fn after(&self, port: u32) -> Bits {
-        self.machine.after(port)
+    fn after(&self, port: u32) -> Bits
+        ensures { (p : Port) → slice_get self.now.machine.graph.ports.outputs port ≡ Some p → result ≡ record { width = p.width; value = slice_index (simulation_of self.now.machine).after port } }
+    {
+        if self.machine.is_output(port) {
+            self.machine.after(port)
+        } else {
+            zero(1)
+        }
     }
 }

@@ -1,4 +1,4 @@
-ghost use Rattle.std.specs.Prelude.{◌≡◌, ◌<◌, [], true, false, length, map, slice_get, slice_index, slice_set, IfOk, Some};
+ghost use Rattle.std.specs.Prelude.{◌≡◌, ◌<◌, [], true, false, length, map, slice_get, slice_index, slice_set, IfOk, None, Some};
 ghost use Rattle.hc_bench.specs.Simulation as simulation;
 ghost use Rattle.hc_bench.specs.Steps.{IsPortValue};
 ghost use Rattle.hc_bench.specs.Trace.{IsAtStart, IsSimulation, RunsCycle};
@@ -12,7 +12,7 @@ ghost use Rattle.hc_flatsim.specs.Machine.{numbers, simulation_of, state_of, val
 ghost use Rattle.hc_flatsim.specs.Settling.{given_of, operand, settled};
 
 use crate::edges::{reset_registers, step_memories, step_registers};
-use crate::inputs::{is_input, set_input};
+use crate::inputs::{is_input, is_output, may_be_set, set_input};
 use crate::known::Known;
 use crate::make::{
     initial_registers, registers_among, used_memories, zeros_of_memories, zeros_of_nodes,
@@ -242,6 +242,22 @@ impl<'a> FlatMachine<'a> {
             self.registers.as_mut_slice(),
         );
         self.known = Known::Nothing;
+    }
+
+    /// Whether there is such an input, and the value has its width.
+    pub fn may_be_set(&self, port: u32, value: Bits) -> bool
+        ensures taken { result ≡ true → IsPortValue self.now.graph.ports.inputs port value }
+        ensures refused { result ≡ false → ¬ IsPortValue self.now.graph.ports.inputs port value }
+    {
+        may_be_set(self.circuit, port, value)
+    }
+
+    /// Whether there is such an output.
+    pub fn is_output(&self, port: u32) -> bool
+        ensures within { result ≡ true → port < length self.now.graph.ports.outputs }
+        ensures past { result ≡ false → slice_get self.now.graph.ports.outputs port ≡ None }
+    {
+        is_output(self.circuit, port)
     }
 
     /// Sets an input to a value of its width.

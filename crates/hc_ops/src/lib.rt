@@ -3,6 +3,7 @@
 #![tactic(auto)]
 
 mod comb_op;
+pub mod functions;
 mod table;
 
 pub use comb_op::{CombOp, Run};

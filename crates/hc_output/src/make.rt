@@ -10,7 +10,7 @@ ghost use Rattle.hc_words.specs.declared.job.Verb.TheVariants as verbs;
 ghost use Rattle.hc_output.specs.Output.{IsServed, IsVerilogFor};
 ghost use Rattle.hc_output.specs.Prepared.{HasOutput, IsFlatOf, IsReady};
 
-use crate::flat::{flat_circuit, playable_circuit, title_text};
+use crate::flat::{flat_circuit, title_text};
 use crate::kinds::{Output, Played};
 use crate::modules::modules_text;
 use hc_bench::kinds::Bench;
@@ -117,7 +117,7 @@ fn sim_output(
     benches_have_runs();
     flat_graphs_run_alike();
     same_trees_run_alike();
-    let circuit = playable_circuit(alloc, db, hier)?;
+    let circuit = flat_circuit(alloc, db, hier)?;
     circuit.lawful();
     Ok(Output {
         text: Vec::new(alloc),
@@ -142,7 +142,7 @@ fn both_output(
     benches_have_runs();
     flat_graphs_run_alike();
     same_trees_run_alike();
-    let circuit = playable_circuit(alloc, db, hier)?;
+    let circuit = flat_circuit(alloc, db, hier)?;
     circuit.lawful();
     let mut text = verilog_with(alloc, flat, title, db, hier, &circuit)?;
     text.push(b'\n')?;

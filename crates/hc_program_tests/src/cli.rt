@@ -1,4 +1,7 @@
+use hc_bits::OpKind;
 use hc_cli::run_one;
+use hc_ops::functions::{greatest, least, leading_zeros, popcount, reverse, saturating_sum};
+use hc_ops::{CombOp, OpTable};
 use hc_outside::{MemSink, MemSource};
 use std::alloc::Global;
 use std::process::Abort;
@@ -16,8 +19,6 @@ const SHARED: &str =
 
 const TWO_WIDTHS: &str =
     "circuit add8\ninput a 8\ninput b 4\noutput s 8\nassign s add(a,b)\ntop add8\n";
-
-const OPERATION: &str = "circuit t\ninput x 8\noutput y 4\nassign y op.popcount(x)\ntop t\n";
 
 const MUX: &str =
     "circuit t\ninput s 2\ninput a 4\noutput y 4\nassign y mux(s,a,const(4,2),const(4,9))\ntop t\nbench\nset s 3\nset a 5\ncycle\nend\n";
@@ -97,15 +98,15 @@ const DEEPER_LINE: &str =
 
 /// The status and the bytes of a run, how many turns and entries were handed out.
 #[derive(Drop)]
-struct Ran {
-    status: u8,
-    written: Vec<u8>,
+pub(crate) struct Ran {
+    pub(crate) status: u8,
+    pub(crate) written: Vec<u8>,
     turns: usize,
     entries: usize,
 }
 
 /// A run whose source fails at the call `failing`, and whose sink has this room. The words stand between spaces.
-fn run<R: Abort>(
+pub(crate) fn run<R: Abort>(
     rt: &R,
     alloc: Global,
     line: &str,
@@ -127,7 +128,15 @@ fn run<R: Abort>(
         Ok(sink) => sink,
         Err(_) => panic!(rt; "no sink"),
     };
-    let outcome = run_one(alloc, &words, &mut source, &mut sink);
+    let ops = OpTable::new(vec![in alloc;
+        CombOp::new(OpKind::Popcount, Box::new(alloc, popcount)?),
+        CombOp::new(OpKind::Clz, Box::new(alloc, leading_zeros)?),
+        CombOp::new(OpKind::Rev, Box::new(alloc, reverse)?),
+        CombOp::new(OpKind::Min, Box::new(alloc, least)?),
+        CombOp::new(OpKind::Max, Box::new(alloc, greatest)?),
+        CombOp::new(OpKind::SatAdd, Box::new(alloc, saturating_sum)?),
+    ]?);
+    let outcome = run_one(alloc, &words, &ops, &mut source, &mut sink);
     Ok(Ran {
         status: outcome.status,
         written: Vec::from_slice(alloc, sink.bytes())?,
@@ -146,7 +155,6 @@ fn texts_end_as_told(rt: HostRuntime) -> Result<(), Fail> {
             1,
             "F15 WidthMismatch line 5 path /\n",
         ),
-        ("verilog", OPERATION, 6, ""),
         ("vhdl", ADDER, 2, USAGE),
     ];
     for (word, text, status, written) in rows {

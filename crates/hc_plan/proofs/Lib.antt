@@ -37,3 +37,4 @@ pub mod CheckedTrees
 pub mod LightTrees
 pub mod ClosedCalls
 pub mod EachCall
+pub mod ReachedCalls

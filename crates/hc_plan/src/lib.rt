@@ -11,6 +11,7 @@ mod hierarchy;
 pub mod kinds;
 mod laws;
 mod lookup;
+mod reached_laws;
 mod rows;
 mod step;
 mod sums;
@@ -27,6 +28,7 @@ pub use laws::{
     distinct_calls_decide, elaborated_trees, equal_calls_are_alike, loops_come_first, plans_decide,
     plans_elaborate, rows_add_up, tree_faults_are_single, walks_are_finishes,
 };
+pub use reached_laws::reached_trees_are_called;
 pub use step::{Step, form_of};
 pub use sums::Sums;
 pub use whole_laws::{

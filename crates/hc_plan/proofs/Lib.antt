@@ -27,3 +27,6 @@ pub mod Steps
 pub mod Tops
 pub mod Again
 pub mod Ends
+pub mod HierSteps
+pub mod EndSteps
+pub mod Outs

@@ -13,7 +13,7 @@ use Rattle.hc_plan.specs.declared.kinds.PlanRow.{PlanRow}
 -- an outcome, seen by its masks
 abbrev pub outcome_of : Option (EntryId × Paths) → Outcome
 outcome_of None = None
-outcome_of (Some o) = Some (o.0, o.1.masks.items)
+outcome_of (Some o) = Some (o.0, o.1.masks)
 
 abbrev pub outs_of : List (Option (EntryId × Paths)) → List Outcome
 outs_of [] = []
@@ -46,4 +46,4 @@ pub record IsLooped (outs : List Outcome) (row : PlanRow) : Type 0 where
 
 -- what is done of rows, seen by masks
 abbrev pub dones_of : List (EntryId × Paths) → List Done
-dones_of done = map (λ (x : EntryId × Paths). (x.0, x.1.masks.items)) done
+dones_of done = map (λ (x : EntryId × Paths). (x.0, x.1.masks)) done

@@ -19,9 +19,7 @@ use crate::lookup::{Table, add, count, find, row_at};
 use crate::rows::rows_of;
 use crate::sums::{Sums, has_few_words, limit_passed, own_sums, plus, row_sums};
 use hc_body::kinds::{Body, Call, Child};
-use hc_body::laws::{
-    bodies_are_single, bodies_have_their_children, bodies_stay, calls_of_the_top,
-};
+use hc_body::laws::{bodies_are_single, bodies_have_their_children, bodies_stay, calls_of_the_top};
 use hc_body::make::{body, top_call};
 use hc_fault::{Fault, FaultKind, ItemList, NoMemory, Path, Refused};
 use hc_lang::{CircuitText, Design};
@@ -32,7 +30,7 @@ use std::alloc::Global;
 pub(crate) const MOST_LEVELS: usize = 64;
 
 /// The circuit of a call.
-fn circuit_of<'a>(design: &'a Design, call: &Call) -> &'a CircuitText
+pub(crate) fn circuit_of<'a>(design: &'a Design, call: &Call) -> &'a CircuitText
     requires { IsCall design.now call.now }
     ensures { IsCallOf design.now call.now result.now }
 {

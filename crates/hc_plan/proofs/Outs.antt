@@ -1,0 +1,118 @@
+-- What became of rows, one after another.
+use Rattle.std.proofs.Common.{◌≡◌, ℕ, zero, suc, ◌+◌, ◌<◌, List, [], ◌∷◌, ◌++◌, length, map, take, drop, get_or, refl, sym, ap, subst, ◌∙◌}
+use Rattle.std.proofs.lemmas.List.{length-map, map-append, take_more, take-append-drop, at_drop_more}
+use Rattle.std.specs.Prelude.{slice_get, Option, Some, None, Vec}
+use Rattle.hc_signal.specs.Graph.{Graph}
+use Rattle.hc_signal.specs.Tree.{Tree, tree}
+use Rattle.hc_signal.specs.Occurrences.{HasCombLoop, AreMasks}
+use Rattle.hc_paths.specs.declared.kinds.Paths.{Paths}
+use Rattle.hc_paths.specs.Kids as paths
+use Rattle.hc_paths.specs.Local.{AreMasksOfKids}
+use Rattle.hc_canon.specs.declared.form.EntryId.{EntryId}
+use Rattle.hc_canon.specs.FormView.{FormView, IsCanonOf}
+use Rattle.hc_plan.specs.Hierarchies.{Done}
+use Rattle.hc_plan.specs.Finishing.{Outcome, all_done, put_first, outcome_in, ids_of, masks_of}
+use Rattle.hc_plan.specs.Stepping.{AreKids, AreKidsOf, IsReady, IsLooped, outcome_of, outs_of}
+use Rattle.hc_plan.specs.declared.kinds.PlanRow.{PlanRow}
+
+-- what a look-up in the list of outcomes tells of the outcome seen by its masks
+pub out_there : (outs : List (Option (EntryId × Paths))) (k : ℕ) (o : Option (Option (EntryId × Paths))) → o ≡ slice_get outs k → (r : Outcome) → ((x : Option (EntryId × Paths)) → o ≡ Some x → r ≡ outcome_of x) → (o ≡ None → r ≡ None) → r ≡ outcome_in (slice_get (outs_of outs) k)
+out_there [] k o e r some none = none e
+out_there (x ∷ outs) zero o e r some none = some x e
+out_there (x ∷ outs) (suc k) o e r some none = out_there outs k o e r some none
+
+-- one more row that is finished, after rows that are
+one_more : (outs : List Outcome) (ks : List ℕ) (xs : List Done) (k : ℕ) (x : Done) → all_done outs ks ≡ Some xs → outcome_in (slice_get outs k) ≡ Some x → all_done outs (ks ++ k ∷ []) ≡ Some (xs ++ x ∷ [])
+one_more outs [] xs k x all own = ap (λ o. put_first o (Some [])) own ∙ (let e : Some [] ≡ Some xs = all in let same : [] ≡ xs = cc in ap (λ l. Some (l ++ x ∷ [])) same)
+one_more outs (j ∷ ks) xs k x all own = by (outcome_in (slice_get outs j)) (all_done outs ks) refl all (λ ys rest. one_more outs ks ys k x rest own)
+  where
+    by : (o : Outcome) (rest : Option (List Done)) → all_done outs ks ≡ rest → put_first o rest ≡ Some xs → ((ys : List Done) → all_done outs ks ≡ Some ys → all_done outs (ks ++ k ∷ []) ≡ Some (ys ++ x ∷ [])) → put_first o (all_done outs (ks ++ k ∷ [])) ≡ Some (xs ++ x ∷ [])
+    by None rest q e more = absurd cc
+    by (Some y) None q e more = absurd cc
+    by (Some y) (Some ys) q e more = (let same : y ∷ ys ≡ xs = cc in ap (put_first (Some y)) (more ys q) ∙ ap (λ l. Some (l ++ x ∷ [])) same)
+
+-- a row among others that is not finished
+none_there : (outs : List Outcome) (ks more : List ℕ) (k : ℕ) → outcome_in (slice_get outs k) ≡ None → all_done outs (ks ++ k ∷ more) ≡ None
+none_there outs [] more k own = ap (λ o. put_first o (all_done outs more)) own
+none_there outs (j ∷ ks) more k own = ap (put_first (outcome_in (slice_get outs j))) (none_there outs ks more k own) ∙ by (outcome_in (slice_get outs j))
+  where
+    by : (o : Outcome) → put_first o None ≡ None
+    by None = refl
+    by (Some x) = refl
+
+-- as many are done as rows were asked for
+done_many : (outs : List Outcome) (ks : List ℕ) (xs : List Done) → all_done outs ks ≡ Some xs → length xs ≡ length ks
+done_many outs [] xs all = (let same : [] ≡ xs = cc in ap length (sym same))
+done_many outs (k ∷ ks) xs all = by (outcome_in (slice_get outs k)) (all_done outs ks) all (done_many outs ks)
+  where
+    by : (o : Outcome) (rest : Option (List Done)) → put_first o rest ≡ Some xs → ((ys : List Done) → rest ≡ Some ys → length ys ≡ length ks) → length xs ≡ length (k ∷ ks)
+    by None rest e more = absurd cc
+    by (Some y) None e more = absurd cc
+    by (Some y) (Some ys) e more = (let same : y ∷ ys ≡ xs = cc in ap length (sym same) ∙ ap suc (more ys refl))
+
+module _ {Z : Type 0} where
+  -- the entries and the paths of one more row that is finished
+  pub kid_added : (outs : List Outcome) (kids : List ℕ) (i k : ℕ) (old new : Vec EntryId Z × Vec Paths Z) (out : EntryId × Paths) (p : Paths) → i < length kids → k ≡ get_or kids i k → AreKidsOf (all_done outs (take i kids)) (Some old) → Some (out.0, out.1.masks) ≡ outcome_in (slice_get outs k)
+      → new.0.items ≡ old.0.items ++ out.0 ∷ [] → new.1.items ≡ old.1.items ++ p ∷ [] → p.masks ≡ out.1.masks → AreKidsOf (all_done outs (take (i + 1) kids)) (Some new)
+  kid_added outs kids i k old new out p l e are own ids ps same =
+      subst (λ ks. AreKidsOf (all_done outs ks) (Some new)) (sym (take_more kids i k l ∙ ap (λ y. take i kids ++ y ∷ []) (sym e))) (by (all_done outs (take i kids)) refl are)
+    where
+      by : (o : Option (List Done)) → all_done outs (take i kids) ≡ o → AreKidsOf o (Some old) → AreKidsOf (all_done outs (take i kids ++ k ∷ [])) (Some new)
+      by None q a = absurd a
+      by (Some xs) q a =
+          subst (λ o. AreKidsOf o (Some new)) (sym (one_more outs (take i kids) xs k (out.0, out.1.masks) q (sym own))) (
+            ids ∙ ap (λ l. l ++ out.0 ∷ []) a.0 ∙ sym (map-append (λ (x : Done). x.0) xs ((out.0, out.1.masks) ∷ [])),
+            ap paths.masks_of ps ∙ map-append (λ (x : Paths). x.masks) old.1.items (p ∷ []) ∙ ap (λ l. l ++ p.masks ∷ []) a.1 ∙ ap (λ m. masks_of xs ++ m ∷ []) same ∙ sym (map-append (λ (x : Done). x.1) xs ((out.0, out.1.masks) ∷ [])),
+          )
+
+-- not all are there where one row is not finished
+pub kid_missing : (Z : Type 0) (outs : List Outcome) (kids : List ℕ) (i k : ℕ) → i < length kids → k ≡ get_or kids i k → None ≡ outcome_in (slice_get outs k) → AreKidsOf {Z = Z} (all_done outs kids) None
+kid_missing Z outs kids i k l e own =
+    subst (λ o. AreKidsOf {Z = Z} o None) (sym (ap (all_done outs) (sym split) ∙ none_there outs (take i kids) (drop (i + 1) kids) k (sym own))) tt
+  where
+    split : take i kids ++ k ∷ drop (i + 1) kids ≡ kids
+    split = ap (λ y. take i kids ++ y ∷ drop (i + 1) kids) e ∙ sym (ap (λ ys. take i kids ++ ys) (at_drop_more (λ ys. ys) kids i k l)) ∙ take-append-drop i kids
+
+-- ---- what a row gives over its kids
+
+-- there is an entry for each kid
+pub kids_many : {Z : Type 0} (outs : List Outcome) (ks : List ℕ) (found : Vec EntryId Z × Vec Paths Z) → AreKidsOf (all_done outs ks) (Some found) → length found.0.items ≡ length ks
+kids_many {Z} outs ks found are = by (all_done outs ks) refl are
+  where
+    by : (o : Option (List Done)) → all_done outs ks ≡ o → AreKidsOf o (Some found) → length found.0.items ≡ length ks
+    by None q a = absurd a
+    by (Some xs) q a = ap length a.0 ∙ length-map xs (λ (x : Done). x.0) ∙ done_many outs ks xs q
+
+-- not all kids are finished where none were found
+pub kids_missing : {Z : Type 0} (o : Option (List Done)) → AreKidsOf {Z = Z} o None → o ≡ None
+kids_missing None are = refl
+kids_missing (Some xs) are = absurd are
+
+module _ {Z : Type 0} (outs : List Outcome) (row : PlanRow) (found : Vec EntryId Z × Vec Paths Z) (ids : List EntryId) (ps : List Paths) where
+  -- whatever the trees of the kids with these masks
+  abbrev pub Whatever : (Tree → Type 0) → Type 0
+  Whatever P = (trees : ℕ → Tree) → AreMasksOfKids (tree row.body.circuit trees) (paths.masks_of ps) → P (tree row.body.circuit trees)
+
+  pub row_ready : (form : FormView) (masks : List ℕ) → AreKidsOf (all_done outs row.kids) (Some found) → ids ≡ found.0.items → ps ≡ found.1.items → IsCanonOf row.body.circuit ids form → Whatever (λ t. AreMasks t masks) → Whatever (λ t. ¬ HasCombLoop t) → IsReady outs row form masks
+  row_ready form masks are one two canon right free = by (all_done outs row.kids) refl are
+    where
+      by : (o : Option (List Done)) → all_done outs row.kids ≡ o → AreKidsOf o (Some found) → IsReady outs row form masks
+      by None q a = absurd a
+      by (Some kids) q a =
+          let same : paths.masks_of ps ≡ masks_of kids = ap paths.masks_of two ∙ a.1 in
+          record {
+            kids = kids;
+            done = q;
+            canon = subst (λ l. IsCanonOf row.body.circuit l form) (one ∙ a.0) canon;
+            right = λ trees have. right trees (subst (AreMasksOfKids (tree row.body.circuit trees)) (sym same) have);
+            free = λ trees have. free trees (subst (AreMasksOfKids (tree row.body.circuit trees)) (sym same) have);
+          }
+
+  pub row_looped : AreKidsOf (all_done outs row.kids) (Some found) → ps ≡ found.1.items → Whatever HasCombLoop → IsLooped outs row
+  row_looped are two loop = by (all_done outs row.kids) refl are
+    where
+      by : (o : Option (List Done)) → all_done outs row.kids ≡ o → AreKidsOf o (Some found) → IsLooped outs row
+      by None q a = absurd a
+      by (Some kids) q a =
+          let same : paths.masks_of ps ≡ masks_of kids = ap paths.masks_of two ∙ a.1 in
+          record { kids = kids; done = q; loop = λ trees have. loop trees (subst (AreMasksOfKids (tree row.body.circuit trees)) (sym same) have) }

@@ -25,10 +25,13 @@ use Rattle.hc_plan.specs.declared.kinds.PlanRow.{PlanRow}
 abbrev levels_of : List HierView → List ℕ
 levels_of views = map (λ (k : HierView). k.levels) views
 
-levels_over : (vs : List HierView) (n : ℕ) → fold (λ (m : ℕ) (k : HierView). max m k.levels) n vs ≡ max n (highest (levels_of vs))
+abbrev most_from : ℕ → List HierView → ℕ
+most_from n views = fold (λ (m : ℕ) (k : HierView). max m k.levels) n views
+
+levels_over : (vs : List HierView) (n : ℕ) → most_from n vs ≡ max n (highest (levels_of vs))
 levels_over [] n = omega arith
 levels_over (v ∷ vs) n =
-    let e : fold (λ (m : ℕ) (k : HierView). max m k.levels) (max n v.levels) vs ≡ max (max n v.levels) (highest (levels_of vs)) = levels_over vs (max n v.levels) in
+    let e : most_from (max n v.levels) vs ≡ max (max n v.levels) (highest (levels_of vs)) = levels_over vs (max n v.levels) in
     omega (arith, e)
 
 from_none : (n : ℕ) → max 0 n ≡ n
@@ -36,11 +39,13 @@ from_none n = omega arith
 
 level_over : (x : Hier-F HierView) → hier_level x ≡ view_over (row_level x) x.kids
 level_over x =
-    let same : fold (λ (m : ℕ) (k : HierView). max m k.levels) 0 x.kids ≡ highest (levels_of x.kids) = levels_over x.kids 0 ∙ from_none _ in
-    ap (λ (n : ℕ). let v : HierView = record { own = row_level x; calls = (hier_level x).calls; levels = suc n } in v) same
+    let same : most_from 0 x.kids ≡ highest (levels_of x.kids) = levels_over x.kids 0 ∙ from_none _ in
+    let with_levels : ℕ → HierView = λ n. record { own = row_level x; calls = (hier_level x).calls; levels = suc n } in
+    ap with_levels same
 
 -- a hierarchy is its own call over the hierarchies of its children
-pub made_over : (x : Hier-F Hier) → hier_view (roll-Hier x) ≡ view_over (row_level (map-Hier Hier HierView hier_view x)) (map hier_view x.kids)
+pub made_over : (x : Hier-F Hier)
+    → hier_view (roll-Hier x) ≡ view_over (row_level (map-Hier Hier HierView hier_view x)) (map hier_view x.kids)
 made_over x = fold-roll-Hier HierView hier_level x ∙ level_over (map-Hier Hier HierView hier_view x)
 
 -- ---- lists that were read
@@ -57,16 +62,19 @@ some_at (x ∷ xs) zero b = (x, refl)
 some_at (x ∷ xs) (suc k) b = some_at xs k (omega (arith, b))
 
 -- an element that was read stands at its place
-pub read_at : {X : Type 0} (xs seen : List X) (i : ℕ) (x : X) → seen ≡ xs → i < length xs → x ≡ get_or seen i x → slice_get xs i ≡ Some x
+pub read_at : {X : Type 0} (xs seen : List X) (i : ℕ) (x : X)
+    → seen ≡ xs → i < length xs → x ≡ get_or seen i x → slice_get xs i ≡ Some x
 read_at xs seen i x same l e = slice_get_read xs (length xs) i x refl l (e ∙ ap (λ ys. get_or ys i x) same)
 
 -- a child that was read stands at a lower place
-pub kid_lower : (kids : List ℕ) (place i : ℕ) → ((k : ℕ) → Has kids k → k < place) → i < length kids → get_or kids i 0 < place
+pub kid_lower : (kids : List ℕ) (place i : ℕ)
+    → ((k : ℕ) → Has kids k → k < place) → i < length kids → get_or kids i 0 < place
 kid_lower kids place i below l = below (get_or kids i 0) (has_read kids i 0 l)
 
 -- ---- a row of a plan
 
-module _ (d : Design) (rows : List PlanRow) (stop : Option Fault) (plan : IsPlanOf d rows stop) (k : ℕ) (row : PlanRow) (at : slice_get rows k ≡ Some row) where
+module _ (d : Design) (rows : List PlanRow) (stop : Option Fault) (plan : IsPlanOf d rows stop) (k : ℕ) (row : PlanRow)
+    (at : slice_get rows k ≡ Some row) where
   first_finish : (x : FinishedCall) × IsRowOf d rows k row x
   first_finish =
       let within : k < length plan.firsts = subst (λ n. k < n) plan.are.many (slice_get_within rows k row at) in
@@ -84,7 +92,8 @@ module _ (d : Design) (rows : List PlanRow) (stop : Option Fault) (plan : IsPlan
 -- ---- the hierarchies of some rows
 
 module _ (d : Design) (rows : List PlanRow) (done : List Done) where
-  hiers_and : {ks : List ℕ} {vs : List HierView} {k : ℕ} {v : HierView} → AreHiersAt d rows done ks vs → IsHierAt d rows done k v → AreHiersAt d rows done (ks ++ k ∷ []) (vs ++ v ∷ [])
+  hiers_and : {ks : List ℕ} {vs : List HierView} {k : ℕ} {v : HierView}
+      → AreHiersAt d rows done ks vs → IsHierAt d rows done k v → AreHiersAt d rows done (ks ++ k ∷ []) (vs ++ v ∷ [])
   hiers_and no_kids own = with_kid own no_kids
   hiers_and (with_kid one rest) own = with_kid one (hiers_and rest own)
 
@@ -93,10 +102,13 @@ module _ (d : Design) (rows : List PlanRow) (done : List Done) where
   no_hiers hiers e = subst (λ hs. AreHiersAt d rows done [] (map hier_view hs)) (sym e) no_kids
 
   -- of one row more
-  pub one_hier_more : (kids : List ℕ) (i : ℕ) (old new : List Hier) (h : Hier) → i < length kids → AreHiersAt d rows done (take i kids) (map hier_view old)
-      → IsHierAt d rows done (get_or kids i 0) (hier_view h) → new ≡ old ++ h ∷ [] → AreHiersAt d rows done (take (i + 1) kids) (map hier_view new)
+  pub one_hier_more : (kids : List ℕ) (i : ℕ) (old new : List Hier) (h : Hier) → i < length kids
+      → AreHiersAt d rows done (take i kids) (map hier_view old)
+      → IsHierAt d rows done (get_or kids i 0) (hier_view h) → new ≡ old ++ h ∷ []
+      → AreHiersAt d rows done (take (i + 1) kids) (map hier_view new)
   one_hier_more kids i old new h l before own is =
-      let views : map hier_view new ≡ map hier_view old ++ hier_view h ∷ [] = ap (map hier_view) is ∙ map-append hier_view old (h ∷ []) in
+      let views : map hier_view new ≡ map hier_view old ++ hier_view h ∷ [] =
+      ap (map hier_view) is ∙ map-append hier_view old (h ∷ []) in
       subst (λ ks. AreHiersAt d rows done ks (map hier_view new)) (sym (take_more kids i 0 l))
       (subst (AreHiersAt d rows done (take i kids ++ get_or kids i 0 ∷ [])) (sym views) (hiers_and before own))
 
@@ -112,16 +124,26 @@ IsOver c row own kids h = hier_view h ≡ view_over (row_of_call c row (seen_don
 
 module _ {E : Type 0} (d : Design) (rows : List PlanRow) (done : List (EntryId × Paths)) where
   -- over the hierarchies of its children
-  pub hier_of_row : (seen : List PlanRow) (k : ℕ) (row : PlanRow) (c : CircuitText) (own : EntryId × Paths) (ks : List ℕ) (kids : List Hier) (r : Result Hier E) → seen ≡ rows → length done ≡ length rows → k < length rows → row ≡ get_or seen k row → own ≡ get_or done k own → IsCallOf d row.call c → ks ≡ row.kids
-      → AreHiersAt d rows (dones_of done) ks (map hier_view kids) → IfOk r (IsOver c row own kids) → IfOk r (λ h. IsHierAt d rows (dones_of done) k (hier_view h))
+  pub hier_of_row : (seen : List PlanRow) (k : ℕ) (row : PlanRow) (c : CircuitText) (own : EntryId × Paths)
+      (ks : List ℕ) (kids : List Hier) (r : Result Hier E) → seen ≡ rows → length done ≡ length rows → k < length rows
+      → row ≡ get_or seen k row → own ≡ get_or done k own → IsCallOf d row.call c → ks ≡ row.kids
+      → AreHiersAt d rows (dones_of done) ks (map hier_view kids) → IfOk r (IsOver c row own kids)
+      → IfOk r (λ h. IsHierAt d rows (dones_of done) k (hier_view h))
   hier_of_row seen k row c own ks kids (Err e) same many l at there of these below is = tt
   hier_of_row seen k row c own ks kids (Ok h) same many l at there of these below is =
-      let stored : slice_get done k ≡ Some own = slice_get_read done (length done) k own refl (omega (arith, many, l)) there in
-      let mine : slice_get (dones_of done) k ≡ Some (seen_done own) = slice_get-map seen_done done k ∙ ap (option_map seen_done) stored in
-      let kids_are : AreHiersAt d rows (dones_of done) row.kids (map hier_view kids) = subst (λ js. AreHiersAt d rows (dones_of done) js (map hier_view kids)) these below in
-      subst (IsHierAt d rows (dones_of done) k) (sym is) (of_row row c (seen_done own) (read_at rows seen k row same l at) mine of kids_are)
+      let within : k < length done = omega (arith, many, l) in
+      let stored : slice_get done k ≡ Some own = slice_get_read done (length done) k own refl within there in
+      let mine : slice_get (dones_of done) k ≡ Some (seen_done own) =
+      slice_get-map seen_done done k ∙ ap (option_map seen_done) stored in
+      let kids_are : AreHiersAt d rows (dones_of done) row.kids (map hier_view kids) =
+      subst (λ js. AreHiersAt d rows (dones_of done) js (map hier_view kids)) these below in
+      let row_there : slice_get rows k ≡ Some row = read_at rows seen k row same l at in
+      subst (IsHierAt d rows (dones_of done) k) (sym is) (of_row row c (seen_done own) row_there mine of kids_are)
 
   -- the last row
-  pub hier_of_last : (n : ℕ) (r : Result Hier E) → n ≡ length rows → IfOk r (λ h. IsHierAt d rows (dones_of done) (n - 1) (hier_view h)) → IfOk r (λ h. (k : ℕ) → suc k ≡ length rows → IsHierAt d rows (dones_of done) k (hier_view h))
+  pub hier_of_last : (n : ℕ) (r : Result Hier E) → n ≡ length rows
+      → IfOk r (λ h. IsHierAt d rows (dones_of done) (n - 1) (hier_view h))
+      → IfOk r (λ h. (k : ℕ) → suc k ≡ length rows → IsHierAt d rows (dones_of done) k (hier_view h))
   hier_of_last n (Err e) same at = tt
-  hier_of_last n (Ok h) same at = λ k is. (let e : n - 1 ≡ k = omega (arith, same, is) in subst (λ j. IsHierAt d rows (dones_of done) j (hier_view h)) e at)
+  hier_of_last n (Ok h) same at =
+      λ k is. (let e : n - 1 ≡ k = omega (arith, same, is) in subst (λ j. IsHierAt d rows (dones_of done) j (hier_view h)) e at)

@@ -1,5 +1,5 @@
 -- What became of rows, one after another.
-use Rattle.std.proofs.Common.{◌≡◌, ℕ, zero, suc, ◌+◌, ◌<◌, List, [], ◌∷◌, ◌++◌, length, map, take, drop, get_or, refl, sym, ap, subst, ◌∙◌}
+use Rattle.std.proofs.Common.{◌≡◌, ℕ, zero, suc, ◌+◌, ◌<◌, ◌≤◌, List, [], ◌∷◌, ◌++◌, length, map, take, drop, get_or, refl, sym, ap, subst, ◌∙◌, arith}
 use Rattle.std.proofs.lemmas.List.{length-map, map-append, take_more, take-append-drop, at_drop_more}
 use Rattle.std.specs.Prelude.{slice_get, Option, Some, None, Vec}
 use Rattle.hc_signal.specs.Graph.{Graph}
@@ -15,11 +15,17 @@ use Rattle.hc_plan.specs.Finishing.{Outcome, all_done, put_first, outcome_in, id
 use Rattle.hc_plan.specs.Stepping.{AreKids, AreKidsOf, IsReady, IsLooped, outcome_of, outs_of}
 use Rattle.hc_plan.specs.declared.kinds.PlanRow.{PlanRow}
 
--- what a look-up in the list of outcomes tells of the outcome seen by its masks
-pub out_there : (outs : List (Option (EntryId × Paths))) (k : ℕ) (o : Option (Option (EntryId × Paths))) → o ≡ slice_get outs k → (r : Outcome) → ((x : Option (EntryId × Paths)) → o ≡ Some x → r ≡ outcome_of x) → (o ≡ None → r ≡ None) → r ≡ outcome_in (slice_get (outs_of outs) k)
-out_there [] k o e r some none = none e
-out_there (x ∷ outs) zero o e r some none = some x e
-out_there (x ∷ outs) (suc k) o e r some none = out_there outs k o e r some none
+-- an outcome at a place, seen by its masks
+pub seen_there : (outs : List (Option (EntryId × Paths))) (k : ℕ) (o : Option (EntryId × Paths)) → k < length outs → o ≡ get_or outs k o → outcome_of o ≡ outcome_in (slice_get (outs_of outs) k)
+seen_there [] k o l e = absurd (omega arith)
+seen_there (x ∷ outs) zero o l e = ap outcome_of e
+seen_there (x ∷ outs) (suc k) o l e = seen_there outs k o (omega arith) e
+
+-- no outcome past the last
+pub seen_past : (outs : List (Option (EntryId × Paths))) (k : ℕ) → length outs ≤ k → None ≡ outcome_in (slice_get (outs_of outs) k)
+seen_past [] k l = refl
+seen_past (x ∷ outs) zero l = absurd (omega arith)
+seen_past (x ∷ outs) (suc k) l = seen_past outs k (omega arith)
 
 -- one more row that is finished, after rows that are
 one_more : (outs : List Outcome) (ks : List ℕ) (xs : List Done) (k : ℕ) (x : Done) → all_done outs ks ≡ Some xs → outcome_in (slice_get outs k) ≡ Some x → all_done outs (ks ++ k ∷ []) ≡ Some (xs ++ x ∷ [])
@@ -52,28 +58,32 @@ done_many outs (k ∷ ks) xs all = by (outcome_in (slice_get outs k)) (all_done 
 
 module _ {Z : Type 0} where
   -- the entries and the paths of one more row that is finished
-  pub kid_added : (outs : List Outcome) (kids : List ℕ) (i k : ℕ) (old new : Vec EntryId Z × Vec Paths Z) (out : EntryId × Paths) (p : Paths) → i < length kids → k ≡ get_or kids i k → AreKidsOf (all_done outs (take i kids)) (Some old) → Some (out.0, out.1.masks) ≡ outcome_in (slice_get outs k)
+  pub kid_added : (outs : List Outcome) (kids : List ℕ) (i d : ℕ) (old new : Vec EntryId Z × Vec Paths Z) (out : EntryId × Paths) (p : Paths) → i < length kids → AreKidsOf (all_done outs (take i kids)) (Some old) → Some (out.0, out.1.masks) ≡ outcome_in (slice_get outs (get_or kids i d))
       → new.0.items ≡ old.0.items ++ out.0 ∷ [] → new.1.items ≡ old.1.items ++ p ∷ [] → p.masks ≡ out.1.masks → AreKidsOf (all_done outs (take (i + 1) kids)) (Some new)
-  kid_added outs kids i k old new out p l e are own ids ps same =
-      subst (λ ks. AreKidsOf (all_done outs ks) (Some new)) (sym (take_more kids i k l ∙ ap (λ y. take i kids ++ y ∷ []) (sym e))) (by (all_done outs (take i kids)) refl are)
+  kid_added outs kids i d old new out p l are own ids ps same =
+      subst (λ ks. AreKidsOf (all_done outs ks) (Some new)) (sym (take_more kids i d l)) (by (all_done outs (take i kids)) refl are)
     where
-      by : (o : Option (List Done)) → all_done outs (take i kids) ≡ o → AreKidsOf o (Some old) → AreKidsOf (all_done outs (take i kids ++ k ∷ [])) (Some new)
+      by : (o : Option (List Done)) → all_done outs (take i kids) ≡ o → AreKidsOf o (Some old) → AreKidsOf (all_done outs (take i kids ++ get_or kids i d ∷ [])) (Some new)
       by None q a = absurd a
       by (Some xs) q a =
-          subst (λ o. AreKidsOf o (Some new)) (sym (one_more outs (take i kids) xs k (out.0, out.1.masks) q (sym own))) (
+          subst (λ o. AreKidsOf o (Some new)) (sym (one_more outs (take i kids) xs (get_or kids i d) (out.0, out.1.masks) q (sym own))) (
             ids ∙ ap (λ l. l ++ out.0 ∷ []) a.0 ∙ sym (map-append (λ (x : Done). x.0) xs ((out.0, out.1.masks) ∷ [])),
             ap paths.masks_of ps ∙ map-append (λ (x : Paths). x.masks) old.1.items (p ∷ []) ∙ ap (λ l. l ++ p.masks ∷ []) a.1 ∙ ap (λ m. masks_of xs ++ m ∷ []) same ∙ sym (map-append (λ (x : Done). x.1) xs ((out.0, out.1.masks) ∷ [])),
           )
 
 -- not all are there where one row is not finished
-pub kid_missing : (Z : Type 0) (outs : List Outcome) (kids : List ℕ) (i k : ℕ) → i < length kids → k ≡ get_or kids i k → None ≡ outcome_in (slice_get outs k) → AreKidsOf {Z = Z} (all_done outs kids) None
-kid_missing Z outs kids i k l e own =
-    subst (λ o. AreKidsOf {Z = Z} o None) (sym (ap (all_done outs) (sym split) ∙ none_there outs (take i kids) (drop (i + 1) kids) k (sym own))) tt
+pub kid_missing : (Z : Type 0) (outs : List Outcome) (kids : List ℕ) (i d : ℕ) → i < length kids → None ≡ outcome_in (slice_get outs (get_or kids i d)) → AreKidsOf {Z = Z} (all_done outs kids) None
+kid_missing Z outs kids i d l own =
+    subst (λ o. AreKidsOf {Z = Z} o None) (sym (ap (all_done outs) (sym split) ∙ none_there outs (take i kids) (drop (i + 1) kids) (get_or kids i d) (sym own))) tt
   where
-    split : take i kids ++ k ∷ drop (i + 1) kids ≡ kids
-    split = ap (λ y. take i kids ++ y ∷ drop (i + 1) kids) e ∙ sym (ap (λ ys. take i kids ++ ys) (at_drop_more (λ ys. ys) kids i k l)) ∙ take-append-drop i kids
+    split : take i kids ++ get_or kids i d ∷ drop (i + 1) kids ≡ kids
+    split = sym (ap (λ ys. take i kids ++ ys) (at_drop_more (λ ys. ys) kids i d l)) ∙ take-append-drop i kids
 
 -- ---- what a row gives over its kids
+
+-- the kids that were found
+pub kids_found : {Z : Type 0} (outs : List Outcome) (given ks : List ℕ) (o : Option (Vec EntryId Z × Vec Paths Z)) (found : Vec EntryId Z × Vec Paths Z) → given ≡ ks → o ≡ Some found → AreKidsOf (all_done outs given) o → AreKidsOf (all_done outs ks) (Some found)
+kids_found outs given ks o found same is are = subst (λ l. AreKidsOf (all_done outs l) (Some found)) same (subst (AreKidsOf (all_done outs given)) is are)
 
 -- there is an entry for each kid
 pub kids_many : {Z : Type 0} (outs : List Outcome) (ks : List ℕ) (found : Vec EntryId Z × Vec Paths Z) → AreKidsOf (all_done outs ks) (Some found) → length found.0.items ≡ length ks
@@ -84,9 +94,9 @@ kids_many {Z} outs ks found are = by (all_done outs ks) refl are
     by (Some xs) q a = ap length a.0 ∙ length-map xs (λ (x : Done). x.0) ∙ done_many outs ks xs q
 
 -- not all kids are finished where none were found
-pub kids_missing : {Z : Type 0} (o : Option (List Done)) → AreKidsOf {Z = Z} o None → o ≡ None
-kids_missing None are = refl
-kids_missing (Some xs) are = absurd are
+pub kids_missing : (Z : Type 0) (o : Option (List Done)) → AreKidsOf {Z = Z} o None → o ≡ None
+kids_missing Z None are = refl
+kids_missing Z (Some xs) are = absurd are
 
 module _ {Z : Type 0} (outs : List Outcome) (row : PlanRow) (found : Vec EntryId Z × Vec Paths Z) (ids : List EntryId) (ps : List Paths) where
   -- whatever the trees of the kids with these masks

@@ -41,7 +41,7 @@ fn add(done: &mut ItemList<(EntryId, Paths)>, row: (EntryId, Paths)) -> Result<(
     }
 }
 
-/// How rows ended of which this became.
+/// How the rows with these outcomes ended.
 fn end_of(alloc: Global, outs: Vec<Option<(EntryId, Paths)>>) -> Result<End, NoMemory>
     ensures { IfOk result (IsEndOf (outs_of outs.items)) }
 {
@@ -55,10 +55,11 @@ fn end_of(alloc: Global, outs: Vec<Option<(EntryId, Paths)>>) -> Result<End, NoM
     Ok(End::Finished(done))
 }
 
-/// The loop of the row at a place: F33 at its first place.
+/// The fault of the row at a place, which looped: F33 at its first place.
 fn loop_at(alloc: Global, plan: &Plan, place: usize) -> Refused
     requires { place < length plan.now.rows }
-    ensures { (row : PlanRow) → slice_get plan.now.rows place ≡ Some row → Tells result (fault_at row.first FaultKind.CombLoop 0) }
+    ensures { (row : PlanRow) → slice_get plan.now.rows place ≡ Some row →
+        Tells result (fault_at row.first FaultKind.CombLoop 0) }
 {
     let row = &plan.rows.as_slice()[place];
     refused_at(alloc, &row.first, FaultKind::CombLoop, 0)
@@ -74,7 +75,8 @@ fn stop_or_hier(
     requires plan { IsPlanOf design.now plan.rows plan.stop }
     requires many { length done.now ≡ length plan.rows }
     ensures whole { OnOk result (plan.stop ≡ None) }
-    ensures hierarchy { IfOk result (λ h. (k : ℕ) → suc k ≡ length plan.rows → IsHierAt design.now plan.rows (dones_of done.now) k (hier_view h)) }
+    ensures hierarchy { IfOk result (λ h. (k : ℕ) → suc k ≡ length plan.rows →
+        IsHierAt design.now plan.rows (dones_of done.now) k (hier_view h)) }
     ensures fault { Faults (λ f. plan.stop ≡ Some f) result }
 {
     let Plan { rows, stop } = plan;

@@ -18,7 +18,14 @@ use std::alloc::Global;
 
 /// A hierarchy with the sums of a row, over those of its children.
 fn hier(name: Name, entry: EntryId, paths: Paths, row: &PlanRow, kids: ItemList<Hier>) -> Hier
-    ensures { let own : CallRow = record { name = name; entry = entry; masks = paths.masks; instances = row.now.instances; weight = row.now.weight; words = row.now.words } in hier_view result ≡ view_over own (map hier_view kids) }
+    ensures { let own : CallRow = record {
+      name = name;
+      entry = entry;
+      masks = paths.masks;
+      instances = row.now.instances;
+      weight = row.now.weight;
+      words = row.now.words;
+    } in hier_view result ≡ view_over own (map hier_view kids) }
 {
     Hier {
         name,
@@ -40,7 +47,8 @@ fn hier_over(
     paths: &Paths,
     kids: ItemList<Hier>,
 ) -> Result<Hier, NoMemory>
-    ensures { IfOk result (λ h. hier_view h ≡ view_over (row_of_call circuit.now row.now (entry, paths.now.masks)) (map hier_view kids)) }
+    ensures { let own = row_of_call circuit.now row.now (entry, paths.now.masks) in
+        IfOk result (λ h. hier_view h ≡ view_over own (map hier_view kids)) }
 {
     let name = Name::new(alloc, circuit.name.bytes())?;
     let paths = copy_of(alloc, paths)?;

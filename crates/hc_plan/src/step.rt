@@ -39,7 +39,8 @@ fn out_at(outs: &[Option<(EntryId, Paths)>], place: usize) -> Option<&(EntryId, 
 {
     match outs.get(place) {
         Some(Some(out)) => Some(out),
-        _ => None,
+        Some(None) => None,
+        None => None,
     }
 }
 

@@ -5,6 +5,7 @@ mod elab;
 mod finish;
 mod gate;
 mod halves;
+mod levels;
 
 pub use elab::elab_many;
 pub use gate::{Gate, NoGate};

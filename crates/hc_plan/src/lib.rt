@@ -4,6 +4,7 @@
 mod deep;
 mod depth_first;
 mod ending;
+mod height_laws;
 mod hierarchy;
 pub mod kinds;
 mod laws;
@@ -14,6 +15,7 @@ mod sums;
 
 pub use depth_first::plan;
 pub use ending::conclude;
+pub use height_laws::kids_are_lower;
 pub use hierarchy::hier_of;
 pub use laws::{
     calls_are_not_below_themselves, calls_met_again, deep_calls_stop, designs_elaborate_once,

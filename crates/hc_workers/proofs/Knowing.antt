@@ -130,7 +130,7 @@ turns_stay v w keeps none_left = none_left
 turns_stay v w keeps (unfinished rest) = unfinished (turns_stay v w keeps rest)
 turns_stay v w keeps (finished {p = p} t knows e rest) = finished t (keeps p t knows) e (turns_stay v w keeps rest)
 
-turns_both : (w : View Entered) {a b : List Outcome} {ps qs : List ℕ} → AreTurnsOf w a ps → AreTurnsOf w b qs → AreTurnsOf w (a ++ b) (ps ++ qs)
+pub turns_both : (w : View Entered) {a b : List Outcome} {ps qs : List ℕ} → AreTurnsOf w a ps → AreTurnsOf w b qs → AreTurnsOf w (a ++ b) (ps ++ qs)
 turns_both w none_left y = y
 turns_both w (unfinished rest) y = unfinished (turns_both w rest y)
 turns_both w (finished t knows e rest) y = finished t knows e (turns_both w rest y)

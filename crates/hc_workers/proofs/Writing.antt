@@ -1,5 +1,7 @@
 -- A list with items written at ascending places.
-use Rattle.std.proofs.Common.{◌≡◌, ◌≢◌, ℕ, zero, suc, ◌+◌, ◌<◌, ◌≤◌, List, [], ◌∷◌, ◌++◌, length, map, refl, sym, ap, ap₂, subst, ◌∙◌, arith}
+use Rattle.std.proofs.Common.{◌≡◌, ◌≢◌, ℕ, zero, suc, ◌+◌, ◌<◌, ◌≤◌, List, [], ◌∷◌, ◌++◌, length, map, take, drop, get_or, refl, sym, ap, ap₂, subst, ◌∙◌, append_assoc, length-append, arith}
+use Rattle.std.proofs.lemmas.List.{take_more}
+use Rattle.std.proofs.lemmas.Option.{slice_get-get_or}
 use Rattle.std.specs.Prelude.{slice_get, slice_set, Option, Some, None, unwrap_or}
 use Rattle.hc_signal.specs.Member.{Has, first, later}
 use Rattle.hc_paths.specs.declared.kinds.Paths.{Paths}
@@ -7,6 +9,7 @@ use Rattle.hc_canon.specs.declared.form.EntryId.{EntryId}
 use Rattle.hc_plan.specs.Finishing.{Outcome, outcome_in}
 use Rattle.hc_plan.specs.Stepping.{outcome_of, outs_of}
 use Rattle.hc_workers.specs.Levels.{outcome_at, written}
+use Rattle.hc_workers.proofs.Knowing.{has_at}
 
 module _ {X : Type 0} where
   pub set_length : (xs : List X) (k : ℕ) (x : X) → length (slice_set xs k x) ≡ length xs
@@ -51,6 +54,7 @@ AreRising s [] = Unit {0}
 AreRising s (k ∷ places) = (s ≤ k) × AreRising (suc k) places
 
 pub rising_from : (s : ℕ) (places : List ℕ) (k : ℕ) → AreRising s places → Has places k → s ≤ k
+rising_from s [] k up h = elim h [ ]
 rising_from s (j ∷ places) k up first = up.0
 rising_from s (j ∷ places) k up (later h) = (let l : suc j ≤ k = rising_from (suc j) places k up.1 h in let m : s ≤ j = up.0 in omega (arith, l, m))
 
@@ -91,3 +95,63 @@ pub written_outs : (xs : List (Option (EntryId × Paths))) (places : List ℕ) (
 written_outs xs [] list = refl
 written_outs xs (k ∷ places) [] = refl
 written_outs xs (k ∷ places) (o ∷ list) = written_outs (slice_set xs k o) places list ∙ ap (λ l. written l places (outs_of list)) (set_outs xs k o)
+
+-- ---- one after another
+
+-- the empty list of a type
+abbrev nothing : {A : Type 0} → List A
+nothing = []
+
+take_nothing : {A : Type 0} (n : ℕ) → take n (nothing {A = A}) ≡ []
+take_nothing zero = refl
+take_nothing (suc n) = refl
+
+take_all : {A : Type 0} (n : ℕ) (xs : List A) → n ≡ length xs → take n xs ≡ xs
+take_all n [] e = take_nothing n
+take_all zero (x ∷ xs) e = absurd (omega (arith, e))
+take_all (suc n) (x ∷ xs) e = ap (λ l. x ∷ l) (take_all n xs (omega (arith, e)))
+
+take_length : {A : Type 0} (n : ℕ) (xs : List A) → n ≤ length xs → length (take n xs) ≡ n
+take_length zero xs l = refl
+take_length (suc n) [] l = absurd (omega (arith, l))
+take_length (suc n) (x ∷ xs) l = ap suc (take_length n xs (omega (arith, l)))
+
+module _ {X : Type 0} where
+  -- one item more is written
+  written_more : (xs : List X) (places : List ℕ) (list : List X) (k : ℕ) (x : X) → length list ≡ length places → written xs (places ++ k ∷ []) (list ++ x ∷ []) ≡ slice_set (written xs places list) k x
+  written_more xs [] [] k x many = refl
+  written_more xs [] (o ∷ list) k x many = absurd cc
+  written_more xs (j ∷ places) [] k x many = absurd cc
+  written_more xs (j ∷ places) (o ∷ list) k x many = written_more (slice_set xs j o) places list k x (omega (arith, many))
+
+  -- what is left of the list that is written
+  pub some_left : (done rest all : List X) (x : X) (more : List X) → rest ≡ x ∷ more → done ++ rest ≡ all → length done < length all
+  some_left done rest all x more is whole =
+      let n : length done + length rest ≡ length all = sym (length-append done rest) ∙ ap length whole in
+      let m : length rest ≡ suc (length more) = ap length is in
+      omega (arith, n, m)
+
+  pub yields_more : (done rest all : List X) (x : X) (more : List X) → rest ≡ x ∷ more → done ++ rest ≡ all → (done ++ x ∷ []) ++ more ≡ all
+  yields_more done rest all x more is whole = append_assoc done (x ∷ []) more ∙ ap (λ l. done ++ l) (sym is) ∙ whole
+
+  -- a step of the writing
+  pub one_written : (xs now : List X) (places : List ℕ) (n : ℕ) (list : List X) (x : X) → n < length places → n ≡ length list → now ≡ written xs (take n places) list → slice_set now (get_or places n 0) x ≡ written xs (take (n + 1) places) (list ++ x ∷ [])
+  one_written xs now places n list x l many is =
+      ap (λ ys. slice_set ys (get_or places n 0) x) is ∙ sym (written_more xs (take n places) list (get_or places n 0) x (sym many ∙ sym (take_length n places (omega (arith, l))))) ∙ ap (λ ps. written xs ps (list ++ x ∷ [])) (sym (take_more places n 0 l))
+
+  -- a place that is read is within
+  pub place_within : (xs now : List X) (places ps : List ℕ) (n : ℕ) (list : List X) → ((k : ℕ) → Has places k → k < length xs) → n < length places → now ≡ written xs ps list → get_or places n 0 < length now
+  place_within xs now places ps n list within l is =
+      subst (λ m. get_or places n 0 < m) (sym (ap length is ∙ written_length xs ps list)) (within (get_or places n 0) (has_at places n (get_or places n 0) (slice_get-get_or places n 0 l)))
+
+  -- all is written
+  pub all_written : (xs now : List X) (places : List ℕ) (n : ℕ) (list all : List X) → length all ≡ length places → n ≡ length list → list ≡ all → now ≡ written xs (take n places) list → now ≡ written xs places all
+  all_written xs now places n list all many e same is =
+      is ∙ ap (λ ps. written xs ps list) (take_all n places (e ∙ ap length same ∙ many)) ∙ ap (λ l. written xs places l) same
+
+  -- what is written through a slice of the whole list
+  pub whole_back : (new items : List X) → length new ≡ length items → take (length items) (new ++ drop (length new) items) ≡ new
+  whole_back [] [] e = refl
+  whole_back [] (y ∷ ys) e = absurd cc
+  whole_back (x ∷ xs) [] e = absurd cc
+  whole_back (x ∷ xs) (y ∷ ys) e = ap (λ l. x ∷ l) (whole_back xs ys (omega (arith, e)))

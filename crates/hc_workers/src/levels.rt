@@ -1,5 +1,5 @@
 //! The rows of a plan, finished in the order of their heights.
-ghost use Rattle.std.specs.Prelude.{◌≡◌, ◌<◌, ◌≤◌, ◌^◌, ℕ, None, IfOk, OnOk, length, replicate};
+ghost use Rattle.std.specs.Prelude.{◌≡◌, ◌<◌, ◌≤◌, ℕ, None, IfOk, OnOk, length, replicate, slice_set};
 ghost use Rattle.hc_signal.specs.Member.{Has};
 ghost use Rattle.hc_turn.specs.Passes.{HoldsNothing, IsOf, known, share};
 ghost use Rattle.hc_db.specs.Database.{lock_of};
@@ -55,6 +55,14 @@ fn none_yet(alloc: Global, count: usize) -> Result<Vec<Option<(EntryId, Paths)>>
     Ok(outs)
 }
 
+/// Writes what became of a row.
+fn put(outs: &mut [Option<(EntryId, Paths)>], place: usize, out: Option<(EntryId, Paths)>)
+    requires { place < length outs.old }
+    ensures { outs.new ≡ slice_set outs.old place out }
+{
+    outs[place] = out;
+}
+
 /// Writes what became of the rows at these places, in order.
 fn write(
     outs: &mut [Option<(EntryId, Paths)>],
@@ -67,7 +75,7 @@ fn write(
 {
     let mut next = 0;
     'list: for out in list {
-        outs[places[next]] = out;
+        put(outs, places[next], out);
         next += 1;
     }
 }

@@ -21,7 +21,7 @@ use Rattle.hc_workers.specs.Working.{AreFinishedAt, AreOutcomesAt, AreReadyAt, A
 use Rattle.hc_workers.proofs.Knowing.{form_still, has_at, outcome_stays, turns_both, turns_stay}
 use Rattle.hc_workers.proofs.Writing.{AllAt, AreRising, written_at, written_each, written_length, written_other, written_outs, whole_back}
 
-item_at : {X : Type 0} (xs : List X) (k : ℕ) → k < length xs → (x : X) × (slice_get xs k ≡ Some x)
+pub item_at : {X : Type 0} (xs : List X) (k : ℕ) → k < length xs → (x : X) × (slice_get xs k ≡ Some x)
 item_at [] k l = absurd (omega (arith, l))
 item_at (x ∷ xs) zero l = (x, refl)
 item_at (x ∷ xs) (suc k) l = item_at xs k (omega (arith, l))

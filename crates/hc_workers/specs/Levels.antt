@@ -1,12 +1,13 @@
 -- The rows of a plan by their heights, and what is finished of them.
-use Rattle.std.specs.Prelude.{◌≡◌, ◌<◌, ◌≤◌, ◌+◌, ◌==◌, if◌then◌else◌, ℕ, zero, suc, List, [], ◌∷◌, ◌++◌, length, map, slice_get, slice_set, Option, Some, None}
+use Rattle.std.specs.Prelude.{◌≡◌, ◌<◌, ◌≤◌, ◌+◌, ◌==◌, if◌then◌else◌, ℕ, zero, suc, List, [], ◌∷◌, ◌++◌, length, map, slice_get, slice_set, IsPermutation, Option, Some, None}
+use Rattle.std.specs.List.{range_with_len}
 use Rattle.hc_signal.specs.Member.{Has}
 use Rattle.hc_paths.specs.declared.kinds.Paths.{Paths}
 use Rattle.hc_canon.specs.declared.form.EntryId.{EntryId}
 use Rattle.hc_dbstate.specs.declared.turns.Entered.{Entered}
 use Rattle.hc_turn.specs.declared.view.View.{View}
 use Rattle.hc_db.specs.OwnTurns.{KnowsForm}
-use Rattle.hc_plan.specs.Finishing.{IsOutcome, Outcome, outcome_in}
+use Rattle.hc_plan.specs.Finishing.{AreOutcomes, IsOutcome, Outcome, outcome_in}
 use Rattle.hc_plan.specs.Stepping.{outs_of}
 use Rattle.hc_plan.specs.declared.kinds.PlanRow.{PlanRow}
 use Rattle.hc_workers.specs.Working.{AreFinishedAt, IsReadyRow, Owns}
@@ -57,3 +58,11 @@ pub record AreFinishedTo (v w : View Entered) (rows : List PlanRow) (outs : List
   pub low : (k : ℕ) (row : PlanRow) (o : Outcome) → slice_get rows k ≡ Some row → slice_get outs k ≡ Some o → row.height ≤ height → IsOutcome (KnowsForm w) outs row o
   pub high : (k : ℕ) (row : PlanRow) → slice_get rows k ≡ Some row → height < row.height → slice_get outs k ≡ Some None
   pub owns : Owns v w (map (outcome_at outs) (places_to height rows))
+
+-- Each row has its outcome, and the pass owns the turns of the rows in some order.
+pub record AreAllFinished (v w : View Entered) (rows : List PlanRow) (outs : List Outcome) : Type 0 where
+  pub outcomes : AreOutcomes (KnowsForm w) rows outs
+  pub order : List ℕ
+  pub all : IsPermutation order (range_with_len 0 (length rows))
+  pub within : (k : ℕ) → Has order k → k < length rows
+  pub owns : Owns v w (map (outcome_at outs) order)

@@ -4,4 +4,5 @@ pub mod Knowing
 pub mod Ordering
 pub mod Passing
 pub mod Rows
+pub mod Whole
 pub mod Writing

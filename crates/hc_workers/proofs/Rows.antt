@@ -2,7 +2,7 @@
 use Rattle.std.proofs.Common.{◌≡◌, ℕ, zero, suc, ◌<◌, ◌≤◌, List, [], ◌∷◌, length, map, refl, sym, ap, subst, ◌∙◌, arith}
 use Rattle.std.proofs.lemmas.List.{length-map}
 use Rattle.std.proofs.lemmas.Option.{slice_get_within}
-use Rattle.std.specs.Prelude.{slice_get, Option, Some, Ok, ℤ}
+use Rattle.std.specs.Prelude.{slice_get, Option, Some, Result, Ok, Err, IfOk, Vec, ℤ}
 use Rattle.hc_fault.specs.declared.fault.Fault.{Fault}
 use Rattle.hc_fault.specs.declared.fault.Path.{Path}
 use Rattle.hc_lang.specs.declared.tree.CircuitText.{CircuitText}
@@ -19,6 +19,9 @@ use Rattle.hc_turn.specs.declared.view.View.{View}
 use Rattle.hc_plan.specs.Elaborates.{FinishedCall}
 use Rattle.hc_plan.specs.Finishing.{Outcome}
 use Rattle.hc_plan.specs.Plan.{IsPlanOf, IsRowOf, call_at}
+use Rattle.hc_canon.specs.declared.form.EntryId.{EntryId}
+use Rattle.hc_paths.specs.declared.kinds.Paths.{Paths}
+use Rattle.hc_plan.specs.Stepping.{outs_of}
 use Rattle.hc_plan.specs.declared.kinds.PlanRow.{PlanRow}
 use Rattle.hc_workers.specs.Levels.{AreAllFinished, AreByHeight, AreFinishedTo, IsHighest, places_to}
 use Rattle.hc_workers.proofs.Heights.{all_low, item_at, row_below}
@@ -66,3 +69,8 @@ all_finished v w rows outs height heights highest done = record {
   within = λ k h. (let r : _ = row_below height rows k h in slice_get_within rows k r.0 r.1);
   owns = done.owns;
 }
+
+-- what became of the rows of the plan, unless memory ran out
+pub plan_finished : {E Z : Type 0} (v w : View Entered) (rows all : List PlanRow) (height : ℕ) (r : Result (Vec (Option (EntryId × Paths)) Z) E) → rows ≡ all → AreByHeight rows → IsHighest rows height → IfOk r (λ outs. AreFinishedTo v w rows (outs_of outs.items) height) → IfOk r (λ outs. AreAllFinished v w all (outs_of outs.items))
+plan_finished v w rows all height (Err e) same heights highest done = tt
+plan_finished v w rows all height (Ok outs) same heights highest done = subst (λ l. AreAllFinished v w l (outs_of outs.items)) same (all_finished v w rows (outs_of outs.items) height heights highest done)

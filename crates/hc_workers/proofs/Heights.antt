@@ -1,6 +1,6 @@
 -- Rows of a plan that are finished level by level.
 use Rattle.std.proofs.Common.{◌≡◌, ℕ, zero, suc, ◌+◌, ◌<◌, ◌≤◌, ◌⊎◌, inl, inr, Bool, true, false, List, [], ◌∷◌, ◌++◌, length, map, take, drop, get_or, refl, sym, ap, ap₂, subst, ◌∙◌, append_assoc, arith}
-use Rattle.std.proofs.lemmas.Bool.{cases_lt, eqb-true, eqb-false, eq-eqb, ne_eqb}
+use Rattle.std.proofs.lemmas.Bool.{cases_lt, eqb-true, eq-eqb}
 use Rattle.std.proofs.lemmas.List.{map-append, take_more}
 use Rattle.std.proofs.lemmas.Option.{slice_get_within}
 use Rattle.std.specs.Prelude.{slice_get, ◌==◌, if◌then◌else◌, replicate, Option, Some, None, unwrap_or}
@@ -17,7 +17,7 @@ use Rattle.hc_plan.specs.Hierarchies.{Done}
 use Rattle.hc_plan.specs.Stepping.{outs_of}
 use Rattle.hc_plan.specs.declared.kinds.PlanRow.{PlanRow}
 use Rattle.hc_workers.specs.Levels.{AreByHeight, AreFinishedTo, IsHighest, IsLevelDone, outcome_at, places_from, places_to, written}
-use Rattle.hc_workers.specs.Working.{AreFinishedAt, AreOutcomesAt, AreReadyAt, AreTurnsOf, IsReadyRow, Keeps, KnowsOuts, Owns}
+use Rattle.hc_workers.specs.Working.{AreFinishedAt, AreOutcomesAt, AreReadyAt, AreTurnsOf, Keeps, KnowsOuts}
 use Rattle.hc_workers.proofs.Knowing.{form_still, has_at, outcome_stays, turns_both, turns_stay}
 use Rattle.hc_workers.proofs.Writing.{AllAt, AreRising, written_at, written_each, written_length, written_other, written_outs, whole_back}
 

@@ -1,6 +1,6 @@
 -- Passes that are split for two halves, and joined.
-use Rattle.std.proofs.Common.{◌≡◌, ℕ, zero, suc, ◌+◌, ◌-◌, ◌/◌, ◌<◌, ◌≤◌, ◌⊎◌, inl, inr, List, [], ◌∷◌, ◌++◌, length, take, drop, refl, sym, ap, ap₂, subst, ◌∙◌, append_assoc, arith}
-use Rattle.std.specs.Prelude.{false, Option, Result, Ok, Err, IfOk, IsOkAnd, Vec}
+use Rattle.std.proofs.Common.{◌≡◌, ℕ, zero, suc, ◌+◌, ◌-◌, ◌/◌, ◌≤◌, ◌⊎◌, inl, inr, List, [], ◌∷◌, ◌++◌, take, drop, refl, sym, ap, ap₂, subst, ◌∙◌, append_assoc, arith}
+use Rattle.std.specs.Prelude.{Option, Result, Ok, Err, IfOk, IsOkAnd, Vec}
 use mathlib.Core.List.{IsPrefix}
 use Rattle.hc_signal.specs.Member.{Has, first, later}
 use Rattle.hc_paths.specs.declared.kinds.Paths.{Paths}
@@ -16,8 +16,8 @@ use Rattle.hc_db.specs.OwnTurns.{KnowsTurn}
 use Rattle.hc_plan.specs.Finishing.{Outcome}
 use Rattle.hc_plan.specs.Stepping.{outcome_of, outs_of}
 use Rattle.hc_plan.specs.declared.kinds.PlanRow.{PlanRow}
-use Rattle.hc_workers.specs.Working.{AreFinishedAt, AreReadyAt, ComesBack, IsJoined, Keeps, KnowsOuts, MayFinish}
-use Rattle.hc_workers.proofs.Knowing.{both_finished, keeps_through, prefix_through}
+use Rattle.hc_workers.specs.Working.{AreFinishedAt, ComesBack, IsJoined, Keeps, KnowsOuts, MayFinish}
+use Rattle.hc_workers.proofs.Knowing.{both_finished, prefix_through}
 
 -- a pass that two were joined into knows what they knew
 abbrev pub JoinsKnow : Type 0

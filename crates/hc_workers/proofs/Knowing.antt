@@ -1,5 +1,5 @@
 -- What a pass knows and owns after it finished rows.
-use Rattle.std.proofs.Common.{◌≡◌, ℕ, zero, suc, ◌⊎◌, inl, inr, List, [], ◌∷◌, ◌++◌, map, refl, sym, ap, subst, ◌∙◌, append_assoc, append-nil}
+use Rattle.std.proofs.Common.{◌≡◌, ℕ, zero, suc, inl, inr, List, [], ◌∷◌, ◌++◌, map, refl, sym, ap, subst, ◌∙◌, append_assoc, append-nil}
 use Rattle.std.specs.Prelude.{slice_get, Option, Some, None, unwrap_or}
 use mathlib.Core.List.{IsPrefix}
 use Rattle.hc_signal.specs.Member.{Has, first, later}
@@ -16,7 +16,7 @@ use Rattle.hc_plan.specs.Hierarchies.{Done}
 use Rattle.hc_plan.specs.Stepping.{IsLooped, IsReady, outcome_of, outs_of}
 use Rattle.hc_plan.specs.declared.kinds.PlanRow.{PlanRow}
 use Rattle.hc_workers.specs.Finished.{FinishesOne, FinishesRow}
-use Rattle.hc_workers.specs.Working.{AreFinishedAt, AreOutcomesAt, AreReadyAt, AreTurnsOf, IsReadyRow, Keeps, KnowsOuts, Owns, finished, none_left, unfinished}
+use Rattle.hc_workers.specs.Working.{AreFinishedAt, AreOutcomesAt, AreReadyAt, AreTurnsOf, IsReadyRow, Keeps, KnowsOuts, finished, none_left, unfinished}
 
 -- ---- lists
 

@@ -1,13 +1,12 @@
 -- Passes that come back.
-use Rattle.std.proofs.Common.{◌≡◌, ℕ, ◌+◌, ◌<◌, ◌≤◌, List, [], ◌∷◌, ◌++◌, length, refl, ◌∙◌, subst, sym, ap, get_or}
+use Rattle.std.proofs.Common.{ℕ, ◌<◌, List, [], ◌∷◌, length, refl, ◌∙◌, get_or}
 use Rattle.std.proofs.lemmas.Option.{slice_get-get_or, slice_get_within}
-use Rattle.std.specs.Prelude.{Some, slice_get, unwrap_or}
-use Rattle.hc_signal.specs.Member.{Has, first, later}
+use Rattle.hc_signal.specs.Member.{first, later}
 use Rattle.hc_dbstate.specs.declared.turns.Entered.{Entered}
 use Rattle.hc_turn.specs.declared.logged.Logged.{Ghosts}
 use Rattle.hc_turn.specs.declared.lock.Pass.{Pass}
 use Rattle.hc_turn.specs.declared.lock.TurnLock.{TurnLock}
-use Rattle.hc_turn.specs.Passes.{HoldsNothing, IsOf, known, seen, share}
+use Rattle.hc_turn.specs.Passes.{HoldsNothing, IsOf, known, seen}
 use Rattle.hc_plan.specs.declared.kinds.PlanRow.{PlanRow}
 use Rattle.hc_workers.specs.Working.{AreReadyAt, ComesBack}
 use Rattle.hc_workers.proofs.Knowing.{has_at, keeps_through, prefix_itself, prefix_through}

@@ -1,5 +1,5 @@
 -- The rows of a plan, by their heights.
-use Rattle.std.proofs.Common.{◌≡◌, ℕ, zero, suc, ◌<◌, ◌≤◌, List, [], ◌∷◌, length, map, refl, sym, ap, subst, ◌∙◌, arith}
+use Rattle.std.proofs.Common.{◌≡◌, ℕ, ◌<◌, ◌≤◌, List, length, sym, ap, subst, ◌∙◌}
 use Rattle.std.proofs.lemmas.List.{length-map}
 use Rattle.std.proofs.lemmas.Option.{slice_get_within}
 use Rattle.std.specs.Prelude.{slice_get, Option, Some, Result, Ok, Err, IfOk, Vec, ℤ}
@@ -52,10 +52,10 @@ body_checked d c args path b (body_of.whole e done checked) = checked
 pub by_height : (d : Design) (rows : List PlanRow) (stop : Option Fault) → HaveChildren d → HaveHeights d → HaveLowerKids d → IsPlanOf d rows stop → AreByHeight rows
 by_height d rows stop children heights lower plan = record {
   ready = λ k row at. (
-  let is : IsRowOf d rows k row (row_is d rows stop plan k row at).0 = (row_is d rows stop plan k row at).1 in (
-    body_checked d is.circuit row.call.args row.first row.body is.body,
-    sym (length-map row.kids (call_at rows)) ∙ ap length is.kids ∙ length-map row.body.children (λ (c : Child). Some c.call) ∙ (children is.circuit row.call.args row.first row.body is.body).many,
-  ));
+      let is : IsRowOf d rows k row (row_is d rows stop plan k row at).0 = (row_is d rows stop plan k row at).1 in (
+        body_checked d is.circuit row.call.args row.first row.body is.body,
+        sym (length-map row.kids (call_at rows)) ∙ ap length is.kids ∙ length-map row.body.children (λ (c : Child). Some c.call) ∙ (children is.circuit row.call.args row.first row.body is.body).many,
+      ));
   some = λ k row at. heights rows stop k row plan at;
   lower = λ k j row kid at m there. lower rows stop k j row kid plan at m there;
 }

@@ -1,8 +1,8 @@
 -- A list with items written at ascending places.
-use Rattle.std.proofs.Common.{◌≡◌, ◌≢◌, ℕ, zero, suc, ◌+◌, ◌<◌, ◌≤◌, List, [], ◌∷◌, ◌++◌, length, map, take, drop, get_or, refl, sym, ap, ap₂, subst, ◌∙◌, append_assoc, length-append, arith}
+use Rattle.std.proofs.Common.{◌≡◌, ℕ, zero, suc, ◌+◌, ◌<◌, ◌≤◌, List, [], ◌∷◌, ◌++◌, length, map, take, drop, get_or, refl, sym, ap, ap₂, subst, ◌∙◌, append_assoc, length-append, arith}
 use Rattle.std.proofs.lemmas.List.{take_more}
 use Rattle.std.proofs.lemmas.Option.{slice_get-get_or}
-use Rattle.std.specs.Prelude.{slice_get, slice_set, Option, Some, None, unwrap_or}
+use Rattle.std.specs.Prelude.{slice_get, slice_set, Option, Some, unwrap_or}
 use Rattle.hc_signal.specs.Member.{Has, first, later}
 use Rattle.hc_paths.specs.declared.kinds.Paths.{Paths}
 use Rattle.hc_canon.specs.declared.form.EntryId.{EntryId}

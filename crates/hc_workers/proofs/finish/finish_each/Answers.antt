@@ -1,4 +1,4 @@
-use Rattle.std.proofs.Common.{◌++◌, ◌∷◌, [], List, ℕ, get_or, subst, sym, take}
+use Rattle.std.proofs.Common.{[], get_or, subst, sym, take}
 use Rattle.std.proofs.lemmas.List.{take_more}
 use Rattle.hc_turn.specs.Passes.{known}
 use Rattle.hc_db.specs.Database.{lock_of}
@@ -36,5 +36,5 @@ places-preserved g c =
     let i = c.places.place-index in (
       back_through (lock_of c.args.db.now) c.args.pass c.places.pass c.finish_at.new.pass c.places.invariant.0 c.finish_at.ensures.back,
       subst (λ l. AreFinishedAt v (known c.finish_at.new.pass) rows outs l (outs_of c.finish_at.new.list.items)) (sym (take_more places i 0 c.places-test.true))
-      (one_more v (known c.places.pass) (known c.finish_at.new.pass) rows outs (take i places) (get_or places i 0) _ _ c.places.invariant.1 c.in-Ok.ensures.ok c.finish_at.ensures.back.keeps),
+          (one_more v (known c.places.pass) (known c.finish_at.new.pass) rows outs (take i places) (get_or places i 0) _ _ c.places.invariant.1 c.in-Ok.ensures.ok c.finish_at.ensures.back.keeps),
     )

@@ -1,4 +1,4 @@
-use Rattle.std.proofs.Common.{◌≤◌, ◌-◌, ◌/◌, ◌++◌, length, List, ℕ, arith, subst, sym}
+use Rattle.std.proofs.Common.{◌≤◌, ◌-◌, ◌/◌, arith, subst, sym}
 use Rattle.hc_turn.specs.Passes.{IsOf}
 use Rattle.hc_db.specs.Database.{lock_of}
 use Rattle.hc_plan.specs.Stepping.{outs_of}

@@ -10,6 +10,8 @@ pub mod make;
 mod run;
 mod sends;
 mod sim;
+mod step_laws;
 
 pub use run::play;
 pub use sim::Sim;
+pub use step_laws::steps_are_for_the_inputs;

@@ -11,3 +11,4 @@ pub mod NewNames
 pub mod Finished
 pub mod LastLines
 pub mod Moving
+pub mod Lawful

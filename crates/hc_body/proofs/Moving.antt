@@ -1,5 +1,5 @@
 -- The body of a call does not depend on where the call stands, and neither does its fault but for the path.
-use Rattle.std.proofs.Common.{◌≡◌, ℕ, ◌+◌, Bool, true, false, List, [], ◌∷◌, ◌++◌, append-nil, refl, sym, ap, subst, ◌∙◌}
+use Rattle.std.proofs.Common.{◌≡◌, ℕ, ◌+◌, Bool, true, false, List, [], ◌∷◌, append-nil, refl, sym, ap, subst, ◌∙◌}
 use Rattle.std.specs.Prelude.{Some, Result, Ok, Err, ℤ, nat_le, if◌then◌else◌}
 use Rattle.hc_fault.specs.declared.fault.Fault.{Fault}
 use Rattle.hc_fault.specs.declared.fault.FaultKind.{FaultKind}
@@ -8,7 +8,6 @@ use Rattle.hc_fault.specs.declared.fault.Ident.{Ident}
 use Rattle.hc_fault.specs.declared.fault.Path.{Path}
 use Rattle.hc_lang.specs.declared.tree.CircuitText.{CircuitText}
 use Rattle.hc_lang.specs.declared.tree.Design.{Design}
-use Rattle.hc_signal.specs.Checked.{Breaks, some_output, few_ports, all_driven, IsChecked}
 use Rattle.hc_signal.specs.Weight.{graph_weight}
 use Rattle.hc_statements.specs.Unrolled.{Item, Do, Stop, unrolled}
 use Rattle.hc_statements.specs.PortWidths.{PortWidths, port_widths, parameters}

@@ -4,6 +4,7 @@
 mod blocks;
 mod finish;
 pub mod kinds;
+pub mod lawful_laws;
 pub mod laws;
 pub mod make;
 mod open;

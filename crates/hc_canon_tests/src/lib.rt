@@ -7,3 +7,5 @@ mod canon;
 mod circuits;
 #[cfg(test)]
 mod dbstate;
+#[cfg(test)]
+mod shared;

@@ -1,5 +1,5 @@
 -- What was prepared is what is due, and nothing else is due.
-use Rattle.std.proofs.Common.{ℕ, ◌≡◌, ◌≤◌, ◌<◌, ◌+◌, Bool, true, false, List, [], length, refl, sym, ap, ap₂, ◌∙◌, subst, arith, replicate}
+use Rattle.std.proofs.Common.{ℕ, ◌≡◌, ◌≤◌, ◌<◌, ◌+◌, Bool, List, [], length, refl, sym, ap, ap₂, ◌∙◌, subst, arith, replicate}
 use Rattle.std.proofs.lemmas.List.{length-replicate}
 use Rattle.std.specs.Prelude.{Option, Some, None, Result, Ok, Err, IfOk}
 use Rattle.std.proofs.lemmas.Result.{IfOk-weaker}
@@ -31,94 +31,84 @@ use Rattle.hc_cli.specs.declared.prepared.Kept.{Kept}
 use Rattle.hc_cli.specs.declared.prepared.Prepared.{Prepared}
 use Rattle.hc_cli.specs.declared.prepared.Prepared.TheVariants as is
 use Rattle.hc_cli.specs.Clauses.{EndsInput}
-use Rattle.hc_cli.specs.Due.{Due, IsDesignDue, IsDue, IsTextDue, asked, bench_broken, broken, done, faulty, not_built, operation, parsed, refusal, refused, text_fault, told, too_long, whole}
-use Rattle.hc_cli.specs.Histories.{IsHistoryOf}
-use Rattle.hc_cli.specs.OpUse.{holds_op}
+use Rattle.hc_cli.specs.Due.{Due, IsDesignDue, IsDue, IsTextDue, asked, bench_broken, broken, done, faulty, parsed, refusal, refused, text_fault, told, too_long, whole}
+use Rattle.hc_cli.specs.Histories.{HistoryRule, no_history}
 use Rattle.hc_cli.specs.Prepared.{IsBenchToldOf, IsToldOf, Serves, ServesDesign, ServesInput, ServesLeft, ServesText, history_in}
-use Rattle.hc_cli.proofs.Kept.{no_calls}
 
 -- ---- what serves what is due
 
-pub serves_refusal : Serves is.Refusal refusal
-serves_refusal = record { status = refl; out = refl; history = no_calls; ready = tt }
-
-pub serves_told : (f : Fault) → Serves (is.Told f) (told f [])
-serves_told f = record { status = refl; out = refl; history = no_calls; ready = tt }
-
-pub serves_not_built : Serves is.NotBuilt not_built
-serves_not_built = record { status = refl; out = refl; history = no_calls; ready = tt }
-
-pub long_text : (job : Job) (text : List ℕ) → 4194304 < length text → ServesText job text (is.Told (text_fault TooLong 0))
-long_text job text long = (told (text_fault TooLong 0) [], too_long long, serves_told (text_fault TooLong 0))
-
-pub refused_left : (words : List (List ℕ)) (left : Option (List ℕ)) → HasNoJob words → ServesLeft words left is.Refusal
-refused_left words None none = ([], refusal, tt, refused none, serves_refusal)
-refused_left words (Some text) none = (text, refusal, refl, refused none, serves_refusal)
-
 long_one : (n : ℕ) → (text : List ℕ) × (n < length text)
 long_one n = (replicate (n + 1) 32, let l : length (replicate (n + 1) 32) ≡ n + 1 = length-replicate {A = ℕ} (n + 1) 32 in omega (arith, l))
-
-long_input : (n : ℕ) (job : Job) (left : Option (List ℕ)) (p : Prepared) → LongerThan left n → ((text : List ℕ) → n < length text → ServesText job text p) → ServesInput job left p
-long_input n job None p long serves = let text = long_one n in let s = serves text.0 text.1 in (text.0, s.0, tt, s.1, s.2)
-long_input n job (Some text) p long serves = let s = serves text long in (text, s.0, refl, s.1, s.2)
-
-pub long_left : (job : Job) (left : Option (List ℕ)) (p : Prepared) → LongerThan left 4194304 → ((job : Job) (text : List ℕ) → 4194304 < length text → ServesText job text p) → ServesInput job left p
-long_left job left p long serves = long_input 4194304 job left p long (serves job)
 
 pub long_ends : (old new : Option (List ℕ)) → LongerThan old 4194304 → EndsInput old new
 long_ends None new long = tt
 long_ends (Some text) new long = λ fits. absurd (omega (arith, long, fits))
 
-pub text_input : (job : Job) (left : Option (List ℕ)) (text : List ℕ) (p : Prepared) → Holds left text → ServesText job text p → ServesInput job left p
-text_input job left text p holds s = (text, s.0, holds, s.1, s.2)
-
-pub asked_left : (words : List (List ℕ)) (left : Option (List ℕ)) (job : Job) (p : Prepared) → IsJob words job → ServesInput job left p → ServesLeft words left p
-asked_left words left job p j s = (s.0, s.1, s.2, asked job j s.3, s.4)
-
--- ---- designs
-
-pub serves_operation : (job : Job) (d : Design) → holds_op d ≡ true → ServesDesign job d is.NotBuilt
-serves_operation job d holds = (not_built, operation holds, serves_not_built)
-
-serves_bench : (job : Job) (d : Design) (e : Elaborated) (f : Fault) (k : Kept) → holds_op d ≡ false → DesignElaborates d (Ok e) → steps_of d (graph e.tree).ports ≡ Err f → IsHistoryOf (history_in k) e.calls → ServesDesign job d (is.BenchTold f k)
-serves_bench job d e f k none elaborates fault history = (told f e.calls, bench_broken e f none elaborates fault, record { status = refl; out = refl; history = history; ready = tt })
-
-pub serves_refused : (job : Job) (d : Design) (e : Elaborated) (r : Refused) (k : Kept) (p : Prepared) → holds_op d ≡ false → DesignElaborates d (Ok e) → Refuses r (steps_of d (graph e.tree).ports) → IsBenchToldOf r k p → IsHistoryOf (history_in k) e.calls → ServesDesign job d p
-serves_refused job d e (refusals.Fault f) k p none elaborates fault same history = subst (ServesDesign job d) (sym same) (serves_bench job d e f k none elaborates fault history)
-serves_refused job d e refusals.NoMemory k p none elaborates fault same history = absurd same
-
-pub serves_whole : (job : Job) (d : Design) (e : Elaborated) (steps : List Step) (o : Output) (k : Kept) → holds_op d ≡ false → DesignElaborates d (Ok e) → IsWhole e.tree → steps_of d (graph e.tree).ports ≡ Ok steps
-    → HasOutput job.verb job.flat d.top.name e steps o → IsReady o → IsHistoryOf (history_in k) e.calls → ServesDesign job d (is.Whole o k)
-serves_whole job d e steps o k none elaborates tree given (rows, out, run, output, text) ready history =
-    (done e.calls out, whole e steps rows out none elaborates tree given run output, record { status = refl; out = text; history = history; ready = ready })
-
-pub serves_broken : (job : Job) (d : Design) (r : Refused) (result : Result Prepared NoMemory) → holds_op d ≡ false → FaultIs (λ f. DesignElaborates d (Err f)) r → IfOk result (IsToldOf r) → IfOk result (ServesDesign job d)
-serves_broken job d r result none fault are = IfOk-weaker result _ _ (λ p told_of. by r p fault told_of) are
-  where
-    by : (r : Refused) (p : Prepared) → FaultIs (λ f. DesignElaborates d (Err f)) r → IsToldOf r p → ServesDesign job d p
-    by (refusals.Fault f) p fault same = subst (ServesDesign job d) (sym same) (told f [], broken f none fault, serves_told f)
-    by refusals.NoMemory p fault same = absurd same
-
--- ---- texts
-
-pub serves_parsed : (job : Job) (text : List ℕ) (d : Design) (p : Prepared) → length text ≤ 4194304 → ParsesTo text d → ServesDesign job d p → ServesText job text p
-serves_parsed job text d p fits parses s = (s.0, parsed d fits parses s.1, s.2)
-
 no_path : (f : Fault) → f.path ≡ None → f ≡ text_fault f.kind f.line
 no_path f e = grind arith
 
-pub serves_faulty : (job : Job) (text : List ℕ) (r : Refused) (result : Result Prepared NoMemory) → length text ≤ 4194304 → Answers text (Err r) → IfOk result (IsToldOf r) → IfOk result (ServesText job text)
-serves_faulty job text r result fits answer are = IfOk-weaker result _ _ (λ p told_of. by r p answer told_of) are
-  where
-    by : (r : Refused) (p : Prepared) → Answers text (Err r) → IsToldOf r p → ServesText job text p
-    by (refusals.Fault f) p answer same =
-        subst (ServesText job text) (sym (same ∙ ap is.Told (no_path f answer.1))) (told (text_fault f.kind f.line) [], faulty f.kind f.line fits answer.0, serves_told (text_fault f.kind f.line))
-    by refusals.NoMemory p answer same = absurd same
+module _ (Rule : HistoryRule) (no_calls : Rule no_history []) where
+  pub serves_refusal : Serves Rule is.Refusal refusal
+  serves_refusal = record { status = refl; out = refl; history = no_calls; ready = tt }
+
+  pub serves_told : (f : Fault) → Serves Rule (is.Told f) (told f [])
+  serves_told f = record { status = refl; out = refl; history = no_calls; ready = tt }
+
+  pub long_text : (job : Job) (text : List ℕ) → 4194304 < length text → ServesText Rule job text (is.Told (text_fault TooLong 0))
+  long_text job text long = (told (text_fault TooLong 0) [], too_long long, serves_told (text_fault TooLong 0))
+
+  pub refused_left : (words : List (List ℕ)) (left : Option (List ℕ)) → HasNoJob words → ServesLeft Rule words left is.Refusal
+  refused_left words None none = ([], refusal, tt, refused none, serves_refusal)
+  refused_left words (Some text) none = (text, refusal, refl, refused none, serves_refusal)
+
+  long_input : (n : ℕ) (job : Job) (left : Option (List ℕ)) (p : Prepared) → LongerThan left n → ((text : List ℕ) → n < length text → ServesText Rule job text p) → ServesInput Rule job left p
+  long_input n job None p long serves = let text = long_one n in let s = serves text.0 text.1 in (text.0, s.0, tt, s.1, s.2)
+  long_input n job (Some text) p long serves = let s = serves text long in (text, s.0, refl, s.1, s.2)
+
+  pub long_left : (job : Job) (left : Option (List ℕ)) (p : Prepared) → LongerThan left 4194304 → ((job : Job) (text : List ℕ) → 4194304 < length text → ServesText Rule job text p) → ServesInput Rule job left p
+  long_left job left p long serves = long_input 4194304 job left p long (serves job)
+
+  pub text_input : (job : Job) (left : Option (List ℕ)) (text : List ℕ) (p : Prepared) → Holds left text → ServesText Rule job text p → ServesInput Rule job left p
+  text_input job left text p holds s = (text, s.0, holds, s.1, s.2)
+
+  pub asked_left : (words : List (List ℕ)) (left : Option (List ℕ)) (job : Job) (p : Prepared) → IsJob words job → ServesInput Rule job left p → ServesLeft Rule words left p
+  asked_left words left job p j s = (s.0, s.1, s.2, asked job j s.3, s.4)
+
+  -- ---- designs
+
+  serves_bench : (job : Job) (d : Design) (e : Elaborated) (f : Fault) (k : Kept) → DesignElaborates d (Ok e) → steps_of d (graph e.tree).ports ≡ Err f → Rule (history_in k) e.calls → ServesDesign Rule job d (is.BenchTold f k)
+  serves_bench job d e f k elaborates fault history = (told f e.calls, bench_broken e f elaborates fault, record { status = refl; out = refl; history = history; ready = tt })
+
+  pub serves_refused : (job : Job) (d : Design) (e : Elaborated) (r : Refused) (k : Kept) (p : Prepared) → DesignElaborates d (Ok e) → Refuses r (steps_of d (graph e.tree).ports) → IsBenchToldOf r k p → Rule (history_in k) e.calls → ServesDesign Rule job d p
+  serves_refused job d e (refusals.Fault f) k p elaborates fault same history = subst (ServesDesign Rule job d) (sym same) (serves_bench job d e f k elaborates fault history)
+  serves_refused job d e refusals.NoMemory k p elaborates fault same history = absurd same
+
+  pub serves_whole : (job : Job) (d : Design) (e : Elaborated) (steps : List Step) (o : Output) (k : Kept) → DesignElaborates d (Ok e) → IsWhole e.tree → steps_of d (graph e.tree).ports ≡ Ok steps
+      → HasOutput job.verb job.flat d.top.name e steps o → IsReady o → Rule (history_in k) e.calls → ServesDesign Rule job d (is.Whole o k)
+  serves_whole job d e steps o k elaborates tree given (rows, out, run, output, text) ready history =
+      (done e.calls out, whole e steps rows out elaborates tree given run output, record { status = refl; out = text; history = history; ready = ready })
+
+  pub serves_broken : (job : Job) (d : Design) (r : Refused) (result : Result Prepared NoMemory) → FaultIs (λ f. DesignElaborates d (Err f)) r → IfOk result (IsToldOf r) → IfOk result (ServesDesign Rule job d)
+  serves_broken job d r result fault are = IfOk-weaker result _ _ (λ p told_of. by r p fault told_of) are
+    where
+      by : (r : Refused) (p : Prepared) → FaultIs (λ f. DesignElaborates d (Err f)) r → IsToldOf r p → ServesDesign Rule job d p
+      by (refusals.Fault f) p fault same = subst (ServesDesign Rule job d) (sym same) (told f [], broken f fault, serves_told f)
+      by refusals.NoMemory p fault same = absurd same
+
+  -- ---- texts
+
+  pub serves_parsed : (job : Job) (text : List ℕ) (d : Design) (p : Prepared) → length text ≤ 4194304 → ParsesTo text d → ServesDesign Rule job d p → ServesText Rule job text p
+  serves_parsed job text d p fits parses s = (s.0, parsed d fits parses s.1, s.2)
+
+  pub serves_faulty : (job : Job) (text : List ℕ) (r : Refused) (result : Result Prepared NoMemory) → length text ≤ 4194304 → Answers text (Err r) → IfOk result (IsToldOf r) → IfOk result (ServesText Rule job text)
+  serves_faulty job text r result fits answer are = IfOk-weaker result _ _ (λ p told_of. by r p answer told_of) are
+    where
+      by : (r : Refused) (p : Prepared) → Answers text (Err r) → IsToldOf r p → ServesText Rule job text p
+      by (refusals.Fault f) p answer same =
+          subst (ServesText Rule job text) (sym (same ∙ ap is.Told (no_path f answer.1))) (told (text_fault f.kind f.line) [], faulty f.kind f.line fits answer.0, serves_told (text_fault f.kind f.line))
+      by refusals.NoMemory p answer same = absurd same
 
 -- ---- at most one is due
-
-not_both : (b : Bool) → b ≡ true → b ≡ false → ⊥
-not_both b t f = cc
 
 ok_err : {A F : Type 0} (x : A) (f : F) → ◌≡◌ {A = Result A F} (Ok x) (Err f) → ⊥
 ok_err x f e = cc
@@ -168,22 +158,15 @@ module _ (one_job : (words : List (List ℕ)) (a b : Job) → IsJob words a → 
       ap₂ (λ (k : Elaborated) (l : List ℕ). done k.calls l) same (outputs_once job d g steps others rows more a b y w given t rows_here ran out_here p)
 
   design_once : (job : Job) (d : Design) (x y : Due) → IsDesignDue job d x → IsDesignDue job d y → x ≡ y
-  design_once job d x y (operation a) (operation b) = refl
-  design_once job d x y (operation a) (broken f b m) = absurd (not_both _ a b)
-  design_once job d x y (operation a) (bench_broken e f b m n) = absurd (not_both _ a b)
-  design_once job d x y (operation a) (whole e s r o b m w n u v) = absurd (not_both _ a b)
-  design_once job d x y (broken f a k) (operation b) = absurd (not_both _ b a)
-  design_once job d x y (broken f a k) (broken g b m) = ap (λ (h : Fault). told h []) (err_is f g (elaborates_once d (Err f) (Err g) k m))
-  design_once job d x y (broken f a k) (bench_broken e g b m n) = absurd (ok_err e f (elaborates_once d (Ok e) (Err f) m k))
-  design_once job d x y (broken f a k) (whole e s r o b m w n u v) = absurd (ok_err e f (elaborates_once d (Ok e) (Err f) m k))
-  design_once job d x y (bench_broken e f a k l) (operation b) = absurd (not_both _ b a)
-  design_once job d x y (bench_broken e f a k l) (broken g b m) = absurd (ok_err e g (elaborates_once d (Ok e) (Err g) k m))
-  design_once job d x y (bench_broken e f a k l) (bench_broken g h b m n) = told_once d e g f h k m l n
-  design_once job d x y (bench_broken e f a k l) (whole g s r o b m w n u v) = absurd (not_mixed d e g f s k m l n)
-  design_once job d x y (whole e s r o a k w l u v) (operation b) = absurd (not_both _ b a)
-  design_once job d x y (whole e s r o a k w l u v) (broken f b m) = absurd (ok_err e f (elaborates_once d (Ok e) (Err f) k m))
-  design_once job d x y (whole e s r o a k w l u v) (bench_broken g f b m n) = absurd (not_mixed d g e f s m k n l)
-  design_once job d x y (whole e s r o a k w l u v) (whole g t q p b m z n i j) = whole_once job d e g s t r q o p k m z l n u i v j
+  design_once job d x y (broken f k) (broken g m) = ap (λ (h : Fault). told h []) (err_is f g (elaborates_once d (Err f) (Err g) k m))
+  design_once job d x y (broken f k) (bench_broken e g m n) = absurd (ok_err e f (elaborates_once d (Ok e) (Err f) m k))
+  design_once job d x y (broken f k) (whole e s r o m w n u v) = absurd (ok_err e f (elaborates_once d (Ok e) (Err f) m k))
+  design_once job d x y (bench_broken e f k l) (broken g m) = absurd (ok_err e g (elaborates_once d (Ok e) (Err g) k m))
+  design_once job d x y (bench_broken e f k l) (bench_broken g h m n) = told_once d e g f h k m l n
+  design_once job d x y (bench_broken e f k l) (whole g s r o m w n u v) = absurd (not_mixed d e g f s k m l n)
+  design_once job d x y (whole e s r o k w l u v) (broken f m) = absurd (ok_err e f (elaborates_once d (Ok e) (Err f) k m))
+  design_once job d x y (whole e s r o k w l u v) (bench_broken g f m n) = absurd (not_mixed d g e f s m k n l)
+  design_once job d x y (whole e s r o k w l u v) (whole g t q p m z n i j) = whole_once job d e g s t r q o p k m z l n u i v j
 
   text_once : (job : Job) (text : List ℕ) (x y : Due) → IsTextDue job text x → IsTextDue job text y → x ≡ y
   text_once job text x y (too_long a) (too_long b) = refl

@@ -4,6 +4,7 @@ use Rattle.std.specs.Prelude.{Option, Result, Ok, Err, OnOk}
 use Rattle.hc_outside.specs.Causes.{Rose}
 use Rattle.hc_outside.specs.Moves.{AppendsFront, Holds}
 use Rattle.hc_dbstate.specs.History.{History, IsLegal}
+use Rattle.hc_plan.specs.Elaborates.{ElaboratedCall}
 use Rattle.hc_output.specs.declared.send.SendStop.{SendStop}
 use Rattle.hc_output.specs.declared.send.SendStop.TheVariants as stop
 use Rattle.hc_cli.specs.declared.prepared.Prepared.{Prepared}
@@ -11,7 +12,7 @@ use Rattle.hc_cli.specs.declared.prepared.Prepared.TheVariants as is
 use Rattle.hc_cli.specs.declared.run.Outcome.{Outcome}
 use Rattle.hc_cli.specs.Clauses.{IsCut, IsDueOrNoMemory, history_of}
 use Rattle.hc_cli.specs.Due.{Due, IsDue}
-use Rattle.hc_cli.specs.Histories.{IsHistoryOf, no_history}
+use Rattle.hc_cli.specs.Histories.{HistoryRule, no_history}
 use Rattle.hc_cli.specs.Prepared.{IsOutOf, ServesLeft, kept, status_of}
 use Rattle.hc_cli.proofs.Kept.{none_legal}
 
@@ -19,7 +20,6 @@ use Rattle.hc_cli.proofs.Kept.{none_legal}
 not_cut : (p : Prepared) → status_of p ≡ 4 → ⊥
 not_cut is.Refusal e = cc
 not_cut (is.Told f) e = cc
-not_cut is.NotBuilt e = cc
 not_cut (is.BenchTold f k) e = cc
 not_cut (is.Whole o k) e = cc
 
@@ -30,13 +30,13 @@ pub status_through : (a b c : ℕ) (sent : Sent) → OnOk sent (a ≡ b) → b �
 status_through a b c (Ok x) is then_is = is ∙ then_is
 status_through a b c (Err e) is then_is = tt
 
-module _ (words : List (List ℕ)) (left : Option (List ℕ)) (p : Prepared) (o : Outcome) (serves : ServesLeft words left p) where
+module _ (Rule : HistoryRule) (words : List (List ℕ)) (left : Option (List ℕ)) (p : Prepared) (o : Outcome) (serves : ServesLeft Rule words left p) where
   -- the sink took a front of what is due
   pub cut_end : (old new : Option (List ℕ)) (sent : Sent) → OnOk sent (o.status ≡ status_of p) → (sent ≡ Err stop.NoMemory → (o.status ≡ 5) × (history_of o ≡ no_history)) → ((sent ≡ Err stop.NoMemory → ⊥) → history_of o ≡ kept p)
-      → ((out : List ℕ) → IsOutOf p out → sent ≡ Err stop.Failed → AppendsFront old new out) → o.status ≡ 4 → (text : List ℕ) × (d : Due) × Holds left text × IsDue words text d × IsCut o old new d
+      → ((out : List ℕ) → IsOutOf p out → sent ≡ Err stop.Failed → AppendsFront old new out) → o.status ≡ 4 → (text : List ℕ) × (d : Due) × Holds left text × IsDue words text d × IsCut Rule o old new d
   cut_end old new (Ok x) done memory history front four = absurd (not_cut p (sym done ∙ four))
   cut_end old new (Err stop.Failed) done memory history front four =
-      (serves.0, serves.1, serves.2, serves.3, record { out = front serves.1.out serves.4.out refl; history = subst (λ (h : History). IsHistoryOf h serves.1.calls) (sym (history (λ e. cc))) serves.4.history })
+      (serves.0, serves.1, serves.2, serves.3, record { out = front serves.1.out serves.4.out refl; history = subst (λ (h : History). Rule h serves.1.calls) (sym (history (λ e. cc))) serves.4.history })
   cut_end old new (Err stop.NoMemory) done memory history front four = absurd (let five : o.status ≡ 5 = (memory refl).0 in cc)
 
   -- where the sink's count did not rise
@@ -45,7 +45,7 @@ module _ (words : List (List ℕ)) (left : Option (List ℕ)) (p : Prepared) (o 
   settled_end before now (Err stop.Failed) done memory cause still = absurd (still (cause refl))
   settled_end before now (Err stop.NoMemory) done memory cause still = inl (memory refl).0
 
-  pub legal_end : (sent : Sent) → (sent ≡ Err stop.NoMemory → (o.status ≡ 5) × (history_of o ≡ no_history)) → ((sent ≡ Err stop.NoMemory → ⊥) → history_of o ≡ kept p) → IsLegal (history_of o)
-  legal_end (Ok x) memory history = subst IsLegal (sym (history (λ e. cc))) serves.4.history.legal
-  legal_end (Err stop.Failed) memory history = subst IsLegal (sym (history (λ e. cc))) serves.4.history.legal
-  legal_end (Err stop.NoMemory) memory history = subst IsLegal (sym (memory refl).1) none_legal
+  pub legal_end : ((h : History) (calls : List ElaboratedCall) → Rule h calls → IsLegal h) → (sent : Sent) → (sent ≡ Err stop.NoMemory → (o.status ≡ 5) × (history_of o ≡ no_history)) → ((sent ≡ Err stop.NoMemory → ⊥) → history_of o ≡ kept p) → IsLegal (history_of o)
+  legal_end lawful (Ok x) memory history = subst IsLegal (sym (history (λ e. cc))) (lawful (kept p) serves.1.calls serves.4.history)
+  legal_end lawful (Err stop.Failed) memory history = subst IsLegal (sym (history (λ e. cc))) (lawful (kept p) serves.1.calls serves.4.history)
+  legal_end lawful (Err stop.NoMemory) memory history = subst IsLegal (sym (memory refl).1) none_legal

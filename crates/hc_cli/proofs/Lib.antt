@@ -1,6 +1,5 @@
 pub mod Pieces
 pub mod Parts
-pub mod AnyOf
 pub mod Kept
 pub mod DueLaws
 pub mod Served

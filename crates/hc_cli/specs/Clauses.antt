@@ -6,7 +6,7 @@ use Rattle.hc_dbstate.specs.History.{History}
 use Rattle.hc_words.specs.declared.job.Job.{Job}
 use Rattle.hc_words.specs.Jobs.{IsJob}
 use Rattle.hc_cli.specs.Due.{Due, IsDue, limit}
-use Rattle.hc_cli.specs.Histories.{IsHistoryOf}
+use Rattle.hc_cli.specs.Histories.{HistoryRule}
 use Rattle.hc_cli.specs.declared.run.Outcome.{Outcome}
 
 -- the entries and the turns that are handed out
@@ -15,22 +15,23 @@ history_of o = record { entries = o.entries.items; turns = o.turns.items }
 
 -- a status whose bytes were all written
 abbrev pub IsWritten : ℕ → Type 0
-IsWritten status = (status ≡ 0) ⊎ (status ≡ 1) ⊎ (status ≡ 2) ⊎ (status ≡ 6)
+IsWritten status = (status ≡ 0) ⊎ (status ≡ 1) ⊎ (status ≡ 2)
 
 -- This holds of what is due for the words and the text that the source had left, or for some text where it tells none.
 abbrev pub ForDue : List (List ℕ) → Option (List ℕ) → (Due → Type 0) → Type 0
 ForDue words left P = (text : List ℕ) × (d : Due) × Holds left text × IsDue words text d × P d
 
--- The status is the one that is due, the sink took exactly what is due, and the history is that of the calls that are due.
-pub record IsDone (o : Outcome) (old new : Option (List ℕ)) (d : Due) : Type 0 where
+-- The status is the one that is due, the sink took exactly what is due, and the history is one, by the rule, of the calls that
+-- are due.
+pub record IsDone (Rule : HistoryRule) (o : Outcome) (old new : Option (List ℕ)) (d : Due) : Type 0 where
   pub status : o.status ≡ d.status
   pub out : Appends old new d.out
-  pub history : IsHistoryOf (history_of o) d.calls
+  pub history : Rule (history_of o) d.calls
 
--- The sink took a front of what is due, and the history is that of the calls that are due.
-pub record IsCut (o : Outcome) (old new : Option (List ℕ)) (d : Due) : Type 0 where
+-- The sink took a front of what is due, and the history is one, by the rule, of the calls that are due.
+pub record IsCut (Rule : HistoryRule) (o : Outcome) (old new : Option (List ℕ)) (d : Due) : Type 0 where
   pub out : AppendsFront old new d.out
-  pub history : IsHistoryOf (history_of o) d.calls
+  pub history : Rule (history_of o) d.calls
 
 -- the status is that of want of memory or the one that is due
 abbrev pub IsDueOrNoMemory : List (List ℕ) → Option (List ℕ) → ℕ → Type 0

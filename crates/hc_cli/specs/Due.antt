@@ -1,5 +1,5 @@
 -- What the program owes for words and an input: a status, the bytes to be written, and the calls whose history it hands out.
-use Rattle.std.specs.Prelude.{ℕ, ◌≡◌, ◌<◌, ◌≤◌, true, false, List, [], codes, length, None, Ok, Err}
+use Rattle.std.specs.Prelude.{ℕ, ◌≡◌, ◌<◌, ◌≤◌, List, [], codes, length, None, Ok, Err}
 use Rattle.hc_fault.specs.declared.fault.Fault.{Fault}
 use Rattle.hc_fault.specs.declared.fault.FaultKind.{FaultKind}
 use Rattle.hc_fault.specs.declared.fault.FaultKind.TheVariants.{TooLong}
@@ -15,7 +15,6 @@ use Rattle.hc_bench.specs.Steps.{steps_of}
 use Rattle.hc_bench.specs.Trace.{IsRun}
 use Rattle.hc_output.specs.Output.{IsOutput}
 use Rattle.hc_cli.specs.FaultLine.{fault_line}
-use Rattle.hc_cli.specs.OpUse.{holds_op}
 
 pub record Due : Type 0 where
   pub status : ℕ
@@ -39,10 +38,6 @@ refusal = record { status = 2; out = usage; calls = [] }
 abbrev pub told : Fault → List ElaboratedCall → Due
 told f calls = record { status = 1; out = fault_line f; calls = calls }
 
--- for what is not built yet
-abbrev pub not_built : Due
-not_built = record { status = 6; out = []; calls = [] }
-
 -- for what the command writes of these calls
 abbrev pub done : List ElaboratedCall → List ℕ → Due
 done calls out = record { status = 0; out = out; calls = calls }
@@ -54,12 +49,11 @@ abbrev pub text_fault : FaultKind → ℕ → Fault
 text_fault kind line = record { kind = kind; line = line; path = None }
 
 -- What is due for a job and a design: the first fault of its elaboration, and then of its bench; else what the command
--- writes of the run of its bench. Operations are not built yet.
+-- writes of the run of its bench.
 pub data IsDesignDue (job : Job) (d : Design) : Due → Type 0 where
-  operation : holds_op d ≡ true → IsDesignDue job d not_built
-  broken : (f : Fault) → holds_op d ≡ false → DesignElaborates d (Err f) → IsDesignDue job d (told f [])
-  bench_broken : (e : Elaborated) (f : Fault) → holds_op d ≡ false → DesignElaborates d (Ok e) → steps_of d (graph e.tree).ports ≡ Err f → IsDesignDue job d (told f e.calls)
-  whole : (e : Elaborated) (steps : List Step) (rows : List CycleRow) (out : List ℕ) → holds_op d ≡ false → DesignElaborates d (Ok e) → IsWhole e.tree → steps_of d (graph e.tree).ports ≡ Ok steps
+  broken : (f : Fault) → DesignElaborates d (Err f) → IsDesignDue job d (told f [])
+  bench_broken : (e : Elaborated) (f : Fault) → DesignElaborates d (Ok e) → steps_of d (graph e.tree).ports ≡ Err f → IsDesignDue job d (told f e.calls)
+  whole : (e : Elaborated) (steps : List Step) (rows : List CycleRow) (out : List ℕ) → DesignElaborates d (Ok e) → IsWhole e.tree → steps_of d (graph e.tree).ports ≡ Ok steps
       → IsRun e.tree steps rows → IsOutput job.verb job.flat d.top.name e rows out → IsDesignDue job d (done e.calls out)
 
 -- What is due for a job and a text.

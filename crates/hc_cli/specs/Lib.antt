@@ -1,6 +1,5 @@
 pub mod FaultLine
 pub mod Sent
-pub mod OpUse
 pub mod Histories
 pub mod Due
 pub mod Clauses

@@ -1,5 +1,5 @@
 -- What the program has prepared, as what is due.
-use Rattle.std.specs.Prelude.{◌≡◌, ℕ, false, List, [], Option}
+use Rattle.std.specs.Prelude.{◌≡◌, ℕ, List, Option}
 use Rattle.hc_fault.specs.declared.fault.Refused.{Refused}
 use Rattle.hc_fault.specs.declared.fault.Refused.TheVariants as refused
 use Rattle.hc_outside.specs.Moves.{Holds}
@@ -12,8 +12,7 @@ use Rattle.hc_cli.specs.declared.prepared.Prepared.{Prepared}
 use Rattle.hc_cli.specs.declared.prepared.Prepared.TheVariants as is
 use Rattle.hc_cli.specs.Due.{Due, IsDesignDue, IsDue, IsTextDue, refusal}
 use Rattle.hc_cli.specs.FaultLine.{fault_line}
-use Rattle.hc_cli.specs.OpUse.{holds_op}
-use Rattle.hc_cli.specs.Histories.{IsHistoryOf, no_history}
+use Rattle.hc_cli.specs.Histories.{HistoryRule, no_history}
 
 -- the history that is kept
 abbrev pub history_in : Kept → History
@@ -22,14 +21,12 @@ history_in k = record { entries = k.entries.items; turns = k.turns.items }
 abbrev pub kept : Prepared → History
 kept is.Refusal = no_history
 kept (is.Told f) = no_history
-kept is.NotBuilt = no_history
 kept (is.BenchTold f k) = history_in k
 kept (is.Whole o k) = history_in k
 
 abbrev pub status_of : Prepared → ℕ
 status_of is.Refusal = 2
 status_of (is.Told f) = 1
-status_of is.NotBuilt = 6
 status_of (is.BenchTold f k) = 1
 status_of (is.Whole o k) = 0
 
@@ -37,7 +34,6 @@ status_of (is.Whole o k) = 0
 abbrev pub IsOutOf : Prepared → List ℕ → Type 0
 IsOutOf is.Refusal out = out ≡ refusal.out
 IsOutOf (is.Told f) out = out ≡ fault_line f
-IsOutOf is.NotBuilt out = out ≡ []
 IsOutOf (is.BenchTold f k) out = out ≡ fault_line f
 IsOutOf (is.Whole o k) out = IsTextOf o out
 
@@ -46,11 +42,11 @@ abbrev pub CanSend : Prepared → Type 0
 CanSend (is.Whole o k) = IsReady o
 CanSend other = Unit {0}
 
--- these are the status, the bytes and the history that are due
-pub record Serves (p : Prepared) (d : Due) : Type 0 where
+-- these are the status and the bytes that are due, and the history is one, by the rule, of the calls that are due
+pub record Serves (Rule : HistoryRule) (p : Prepared) (d : Due) : Type 0 where
   pub status : status_of p ≡ d.status
   pub out : IsOutOf p d.out
-  pub history : IsHistoryOf (kept p) d.calls
+  pub history : Rule (kept p) d.calls
   pub ready : CanSend p
 
 -- the end for a fault
@@ -64,18 +60,14 @@ IsBenchToldOf (refused.Fault f) k p = p ≡ is.BenchTold f k
 IsBenchToldOf refused.NoMemory k p = ⊥
 
 -- this serves what is due for a design; for a text; for what a source had left, or some text where it tells none
-abbrev pub ServesDesign : Job → Design → Prepared → Type 0
-ServesDesign job design p = (d : Due) × IsDesignDue job design d × Serves p d
+abbrev pub ServesDesign : HistoryRule → Job → Design → Prepared → Type 0
+ServesDesign Rule job design p = (d : Due) × IsDesignDue job design d × Serves Rule p d
 
--- and so for a design without operations
-abbrev pub ServesElaborated : Job → Design → Prepared → Type 0
-ServesElaborated job design p = holds_op design ≡ false → ServesDesign job design p
+abbrev pub ServesText : HistoryRule → Job → List ℕ → Prepared → Type 0
+ServesText Rule job text p = (d : Due) × IsTextDue job text d × Serves Rule p d
 
-abbrev pub ServesText : Job → List ℕ → Prepared → Type 0
-ServesText job text p = (d : Due) × IsTextDue job text d × Serves p d
+abbrev pub ServesInput : HistoryRule → Job → Option (List ℕ) → Prepared → Type 0
+ServesInput Rule job left p = (text : List ℕ) × (d : Due) × Holds left text × IsTextDue job text d × Serves Rule p d
 
-abbrev pub ServesInput : Job → Option (List ℕ) → Prepared → Type 0
-ServesInput job left p = (text : List ℕ) × (d : Due) × Holds left text × IsTextDue job text d × Serves p d
-
-abbrev pub ServesLeft : List (List ℕ) → Option (List ℕ) → Prepared → Type 0
-ServesLeft words left p = (text : List ℕ) × (d : Due) × Holds left text × IsDue words text d × Serves p d
+abbrev pub ServesLeft : HistoryRule → List (List ℕ) → Option (List ℕ) → Prepared → Type 0
+ServesLeft Rule words left p = (text : List ℕ) × (d : Due) × Holds left text × IsDue words text d × Serves Rule p d

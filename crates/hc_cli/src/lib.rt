@@ -2,7 +2,7 @@
 #![tactic(auto)]
 
 mod fault_line;
-mod op_use;
+mod histories;
 mod prepared;
 mod run;
 

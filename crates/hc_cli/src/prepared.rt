@@ -10,6 +10,7 @@ use crate::fault_line::write_fault;
 use hc_canon::Form;
 use hc_dbstate::{DbState, Turn};
 use hc_fault::Fault;
+use hc_ops::OpTable;
 use hc_output::{Output, SendStop, write_output};
 use hc_outside::{Failed, Sink, write_all};
 use std::alloc::Global;
@@ -28,8 +29,6 @@ pub(crate) enum Prepared {
     Refusal,
     /// The text or its elaboration has a fault.
     Told(Fault),
-    /// The text needs what is not built yet.
-    NotBuilt,
     /// The bench of an elaborated design has a fault.
     BenchTold(Fault, Kept),
     /// The command has something to write.
@@ -59,7 +58,12 @@ fn stopped(sent: Result<(), Failed>) -> Result<(), SendStop>
 }
 
 /// Writes what was prepared.
-pub(crate) fn send<K: Sink>(alloc: Global, prepared: &Prepared, to: &mut K) -> Result<(), SendStop>
+pub(crate) fn send<K: Sink>(
+    alloc: Global,
+    ops: &OpTable,
+    prepared: &Prepared,
+    to: &mut K,
+) -> Result<(), SendStop>
     requires { CanSend prepared.now }
     ensures all { (out : List ℕ) → IsOutOf prepared.now out → OnOk result (Appends (K.taken to.old) (K.taken to.new) out) }
     ensures front { (out : List ℕ) → IsOutOf prepared.now out → IsErrOf result stop.Failed → AppendsFront (K.taken to.old) (K.taken to.new) out }
@@ -69,7 +73,6 @@ pub(crate) fn send<K: Sink>(alloc: Global, prepared: &Prepared, to: &mut K) -> R
     match prepared {
         Prepared::Refusal => stopped(write_all(to, USAGE.as_bytes())),
         Prepared::Told(fault) | Prepared::BenchTold(fault, _) => stopped(write_fault(fault, to)),
-        Prepared::NotBuilt => Ok(()),
-        Prepared::Whole(output, _) => write_output(alloc, output, to),
+        Prepared::Whole(output, _) => write_output(alloc, ops, output, to),
     }
 }

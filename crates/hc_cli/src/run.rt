@@ -5,29 +5,30 @@ ghost use Rattle.hc_words.specs.Jobs.{HasNoJob};
 ghost use Rattle.hc_cli.specs.declared.run.Stop.TheVariants as stop;
 ghost use Rattle.hc_cli.specs.Clauses.{EndsInput, EndsRead, ForDue, IsCut, IsDone, IsDueOrNoMemory, IsWritten, history_of};
 ghost use Rattle.hc_cli.specs.Due.{Due, IsDue};
-ghost use Rattle.hc_cli.specs.Histories.{no_history};
-ghost use Rattle.hc_cli.specs.Prepared.{CanSend, IsBenchToldOf, IsToldOf, ServesDesign, ServesElaborated, ServesInput, ServesLeft, ServesText, history_in, kept, status_of};
+ghost use Rattle.hc_cli.specs.Histories.{IsHistoryInOrder, no_history};
+ghost use Rattle.hc_cli.specs.Prepared.{CanSend, IsBenchToldOf, IsToldOf, ServesDesign, ServesInput, ServesLeft, ServesText, history_in, kept, status_of};
 ghost use Rattle.hc_bench.specs.Answers.{Answers};
 ghost use Rattle.hc_bench.specs.Steps.{AreStepsFor, steps_of};
 ghost use Rattle.hc_dbstate.specs.Elaboration.{IsElaboration, hier_view};
 ghost use Rattle.hc_dbstate.specs.History.{IsLegal};
 ghost use Rattle.hc_dbstate.specs.Unfolding.{unfolding_of};
 ghost use Rattle.hc_plan.specs.Elaborates.{DesignElaborates, Elaborated};
-ghost use Rattle.hc_plan.specs.Hierarchies.{IsHierarchyFor, LogsWalk};
+ghost use Rattle.hc_plan.specs.Hierarchies.{AreCalled, IsHierarchyFor};
 ghost use Rattle.hc_output.specs.Output.{IsServed};
 ghost use Rattle.hc_output.specs.declared.send.SendStop.TheVariants as sent_stop;
 ghost use Rattle.hc_signal.specs.Tree.{graph};
 ghost use Rattle.hc_words.specs.Jobs.{IsJob};
 
-use crate::op_use::holds_op;
+use crate::histories::elaborations_have_histories;
 use crate::prepared::{Kept, Prepared, kept_of, send};
 use hc_bench::kinds::Bench;
 use hc_bench::make::bench;
 use hc_canon::Form;
-use hc_dbstate::{DbState, Hier, Turn, entries_unfold_once, walks_are_whole};
+use hc_dbstate::{DbState, Hier, Turn, walks_are_whole};
 use hc_elab::elab_one;
 use hc_fault::{Fault, FaultKind, NoMemory, Refused};
 use hc_lang::{Design, parse, texts_have_one_answer};
+use hc_ops::OpTable;
 use hc_output::{SendStop, outputs_are_single, prepare_output};
 use hc_outside::{ReadStop, Sink, Source, read_all};
 use hc_plan::{designs_elaborate_once, elaborated_trees};
@@ -36,9 +37,8 @@ use hc_words::{Job, WordStop, one_job, read_words};
 use std::alloc::Global;
 
 /// How a run ended. The statuses: 0 what the command asks for was written; 1 the text has a fault, and its line was written;
-/// 2 the words were refused, and the usage line was written; 3 the source failed; 4 the sink failed; 5 want of memory; 6 the
-/// text needs what is not built yet. The turns and the entries are those of an elaboration without a fault: a turn for each
-/// call, in order, with its entry. Both are empty where there is none, and at 3 and 5.
+/// 2 the words were refused, and the usage line was written; 3 the source failed; 4 the sink failed; 5 want of memory. The turns and the entries are those of an elaboration without a fault: a turn for each
+/// distinct call, with its entry. Both are empty where there is none, and at 3 and 5.
 #[derive(Drop)]
 pub struct Outcome {
     pub status: u8,
@@ -99,11 +99,9 @@ fn prepare_elaborated(
 ) -> Result<Prepared, NoMemory>
     requires elaboration { IsElaboration db.entries hier.now }
     requires served { IsServed job.now.verb }
-    ensures { IfOk result (λ p. (e : Elaborated) → DesignElaborates design.now (Ok e) → IsHierarchyFor db.entries hier.now e → LogsWalk no_history db hier.now → ServesElaborated job.now design.now p) }
+    ensures { IfOk result (λ p. (e : Elaborated) → DesignElaborates design.now (Ok e) → IsHierarchyFor db.entries hier.now e → AreCalled db.entries hier.now → IsHistoryInOrder db e.calls → ServesDesign IsHistoryInOrder job.now design.now p) }
 {
     elaborated_trees();
-    entries_unfold_once();
-    db.legal();
     match bench_of(alloc, design, &db, hier) {
         Ok(bench) => {
             let output = prepare_output(
@@ -124,14 +122,15 @@ fn prepare_elaborated(
 /// What is prepared for a design.
 fn prepare_design(alloc: Global, job: &Job, design: &Design) -> Result<Prepared, NoMemory>
     requires { IsServed job.now.verb }
-    ensures { IfOk result (ServesDesign job.now design.now) }
+    ensures { IfOk result (ServesDesign IsHistoryInOrder job.now design.now) }
 {
-    if holds_op(design) {
-        return Ok(Prepared::NotBuilt);
-    }
     let mut db = DbState::new(alloc);
     match elab_one(alloc, design, &mut db) {
-        Ok(hier) => prepare_elaborated(alloc, job, design, db, &hier),
+        Ok(hier) => {
+            elaborations_have_histories();
+            db.legal();
+            prepare_elaborated(alloc, job, design, db, &hier)
+        }
         Err(refused) => told(refused),
     }
 }
@@ -140,7 +139,7 @@ fn prepare_design(alloc: Global, job: &Job, design: &Design) -> Result<Prepared,
 fn prepare_text(alloc: Global, job: &Job, text: &[u8]) -> Result<Prepared, NoMemory>
     requires served { IsServed job.now.verb }
     requires fits { length text.now ≤ 4194304 }
-    ensures { IfOk result (ServesText job.now text.now) }
+    ensures { IfOk result (ServesText IsHistoryInOrder job.now text.now) }
 {
     match parse(alloc, text) {
         Ok(design) => prepare_design(alloc, job, &design),
@@ -150,7 +149,7 @@ fn prepare_text(alloc: Global, job: &Job, text: &[u8]) -> Result<Prepared, NoMem
 
 /// The fault of a text that is too long.
 fn too_long() -> Prepared
-    ensures { (job : Job) (text : List ℕ) → 4194304 < length text → ServesText job text result }
+    ensures { (job : Job) (text : List ℕ) → 4194304 < length text → ServesText IsHistoryInOrder job text result }
 {
     Prepared::Told(Fault {
         kind: FaultKind::TooLong,
@@ -162,7 +161,7 @@ fn too_long() -> Prepared
 /// Reads the input, and prepares what is due for it.
 fn prepare_input<S: Source>(alloc: Global, job: &Job, input: &mut S) -> Result<Prepared, Stop>
     requires { IsServed job.now.verb }
-    ensures due { IfOk result (ServesInput job.now (S.left input.old)) }
+    ensures due { IfOk result (ServesInput IsHistoryInOrder job.now (S.left input.old)) }
     ensures fault { IsErrOf result stop.Fault → Rose (S.faults input.old) (S.faults input.new) }
     ensures end { OnOk result (EndsInput (S.left input.old) (S.left input.new)) }
 {
@@ -179,7 +178,7 @@ fn prepare_input<S: Source>(alloc: Global, job: &Job, input: &mut S) -> Result<P
 
 /// Reads the words and then the input, and prepares what is due.
 fn prepare<S: Source>(alloc: Global, words: &[String], input: &mut S) -> Result<Prepared, Stop>
-    ensures due { IfOk result (ServesLeft (map string_bytes words.now) (S.left input.old)) }
+    ensures due { IfOk result (ServesLeft IsHistoryInOrder (map string_bytes words.now) (S.left input.old)) }
     ensures fault { IsErrOf result stop.Fault → Rose (S.faults input.old) (S.faults input.new) }
     ensures refused { HasNoJob (map string_bytes words.now) → (S.left input.new ≡ S.left input.old) × (S.faults input.new ≡ S.faults input.old) }
     ensures end { OnOk result (EndsRead (map string_bytes words.now) (S.left input.old) (S.left input.new)) }
@@ -223,7 +222,6 @@ fn ended(alloc: Global, prepared: Prepared) -> Outcome
     match prepared {
         Prepared::Refusal => empty(alloc, 2),
         Prepared::Told(_) => empty(alloc, 1),
-        Prepared::NotBuilt => empty(alloc, 6),
         Prepared::BenchTold(_, kept) => with_history(1, kept),
         Prepared::Whole(_, kept) => with_history(0, kept),
     }
@@ -251,21 +249,22 @@ fn finished(alloc: Global, sent: Result<(), SendStop>, outcome: Outcome) -> Outc
 pub fn run_one<S: Source, K: Sink>(
     alloc: Global,
     words: &[String],
+    ops: &OpTable,
     input: &mut S,
     output: &mut K,
 ) -> Outcome
-    // Status 0, 1, 2 or 6 is the one that is due, the sink took exactly what is due, and the history is that of the calls
-    // that are due.
-    ensures written { IsWritten result.status → ForDue (map string_bytes words.now) (S.left input.old) (IsDone result (K.taken output.old) (K.taken output.new)) }
+    // Status 0, 1 or 2 is the one that is due, the sink took exactly what is due, and the history is that of the calls
+    // that are due, with the turns in the order of their first places.
+    ensures written { IsWritten result.status → ForDue (map string_bytes words.now) (S.left input.old) (IsDone IsHistoryInOrder result (K.taken output.old) (K.taken output.new)) }
     // Status 3 comes only where the source's count rose, and nothing was written.
     ensures read_fault { result.status ≡ 3 → Rose (S.faults input.old) (S.faults input.new) × Keeps (K.taken output.old) (K.taken output.new) }
     // Status 4 comes only where the sink's count rose,
     ensures write_fault { result.status ≡ 4 → Rose (K.faults output.old) (K.faults output.new) }
-    // and a front of what is due was written; the history is that of the calls that are due.
-    ensures front { result.status ≡ 4 → ForDue (map string_bytes words.now) (S.left input.old) (IsCut result (K.taken output.old) (K.taken output.new)) }
+    // and a front of what is due was written; the history is that of the calls that are due, in order.
+    ensures front { result.status ≡ 4 → ForDue (map string_bytes words.now) (S.left input.old) (IsCut IsHistoryInOrder result (K.taken output.old) (K.taken output.new)) }
     // At want of memory nothing was written.
     ensures memory { result.status ≡ 5 → Keeps (K.taken output.old) (K.taken output.new) }
-    ensures range { result.status ≤ 6 }
+    ensures range { result.status ≤ 5 }
     // Where neither count rose, the status is the one that is due or that of want of memory.
     ensures settled { ¬ Rose (S.faults input.old) (S.faults input.new) → ¬ Rose (K.faults output.old) (K.faults output.new) → IsDueOrNoMemory (map string_bytes words.now) (S.left input.old) result.status }
     // Refused words leave the source and its count alone.
@@ -281,7 +280,7 @@ pub fn run_one<S: Source, K: Sink>(
         Err(Stop::Fault) => return empty(alloc, 3),
         Err(Stop::NoMemory) => return empty(alloc, 5),
     };
-    let sent = send(alloc, &prepared, output);
+    let sent = send(alloc, ops, &prepared, output);
     finished(alloc, sent, ended(alloc, prepared))
 }
 

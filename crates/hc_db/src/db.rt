@@ -41,7 +41,7 @@ impl Db {
 
     /// Takes a turn, in which it inserts the form, and answers the entry that is equal to it, or else the next place, where
     /// the form then stands. The log that the pass has then seen begins with all that it had seen or kept, and ends with this
-    /// insertion, whose place is the pass's own. It waits until no other pass has the turn.
+    /// insertion, whose place is the pass's own. It may wait for another pass to give the turn back.
     ///
     /// It is refused only for want of memory. Then the form comes back and the call adds no turn, but the pass has seen the log.
     ///
@@ -74,7 +74,7 @@ impl Db {
     }
 
     /// The entries and turns. The log begins with all that the pass had seen or kept, and with all 64 shares the pass owns each
-    /// place of it. It waits until no other pass has the turn.
+    /// place of it. It may wait for another pass to give the turn back.
     pub fn finish<R: Wait>(self, rt: &R, pass: Pass) -> DbState
         requires lock { IsOf (lock_of self) pass }
         requires free { HoldsNothing pass }

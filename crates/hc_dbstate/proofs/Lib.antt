@@ -1,10 +1,12 @@
 pub mod Triples
+pub mod Logged
 pub mod Grows
 pub mod Replayed
 pub mod Unfolded
 pub mod Denoted
 pub mod Indexed
 pub mod Walks
+pub mod Kept
 pub mod Named
 pub mod Marks
 pub mod Called

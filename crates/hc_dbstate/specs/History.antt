@@ -20,6 +20,8 @@ abbrev pub IsLegalTurn : ℕ → ℕ → Bool → Type 0
 IsLegalTurn before entry true = entry ≡ before
 IsLegalTurn before entry false = entry < before
 
+-- Each turn is legal; there are as many entries as fresh turns; no two entries are equal; each is a form, and the entries of its
+-- instances stand below it.
 pub record IsLegal (h : History) : Type 0 where
   pub turns : (k : ℕ) (t : Turn) → slice_get h.turns k ≡ Some t → IsLegalTurn (fresh_turns (take k h.turns)) t.entry.0 t.fresh
   pub many : length h.entries ≡ fresh_turns h.turns

@@ -5,7 +5,7 @@ ghost use Rattle.hc_canon.specs.Same.{Same};
 ghost use Rattle.hc_dbstate.specs.declared.turns.Entered.{Entered};
 ghost use Rattle.hc_dbstate.specs.declared.turns.Turn.{Turn};
 ghost use Rattle.hc_dbstate.specs.History.{History, IsLegal, entered, log};
-ghost use Rattle.hc_dbstate.specs.Insertion.{Replays};
+ghost use Rattle.hc_dbstate.specs.Insertion.{IsInserted, Replays};
 ghost use Rattle.hc_dbstate.specs.Unfolding.{AreDenoted, tree_of, unfolding_of};
 ghost use Rattle.hc_signal.specs.Graph.{Graph};
 ghost use Rattle.hc_signal.specs.Member.{Has};
@@ -33,6 +33,12 @@ pub fn logs_replay()
 pub fn entries_grow_with_the_log()
     ensures single { (h g : History) → IsLegal h → IsLegal g → log h ≡ log g → h ≡ g }
     ensures grown { (h g : History) (rest : List Entered) → IsLegal h → IsLegal g → log g ≡ log h ++ rest → (more : List FormView) × (g.entries ≡ h.entries ++ more) }
+{}
+
+/// An entry keeps its form: through an insertion, and as the log grows.
+pub fn entries_keep_their_forms()
+    ensures inserted { (old new : History) (form : FormView) (id : EntryId) → IsInserted old new form id → (entry : EntryId) (kept : FormView) → slice_get old.entries entry.0 ≡ Some kept → slice_get new.entries entry.0 ≡ Some kept }
+    ensures grown { (h g : History) (rest : List Entered) → IsLegal h → IsLegal g → log g ≡ log h ++ rest → (entry : EntryId) (kept : FormView) → slice_get h.entries entry.0 ≡ Some kept → slice_get g.entries entry.0 ≡ Some kept }
 {}
 
 /// In a legal history an entry's unfolding is its circuit with the unfoldings of its kids, and stays so as entries are added.

@@ -6,6 +6,7 @@ mod elaborations;
 mod hier;
 mod insert;
 mod laws;
+mod turn_laws;
 mod turns;
 mod used;
 
@@ -15,8 +16,9 @@ pub use elaborations::{
 };
 pub use hier::{Hier, walks_are_whole};
 pub use laws::{
-    entries_are_named, entries_grow_with_the_log, entries_unfold_once, logs_name_entries,
-    logs_replay, made_forms_tell_trees_apart, unfoldings_are_of_kids,
+    entries_are_named, entries_grow_with_the_log, entries_keep_their_forms, entries_unfold_once,
+    logs_name_entries, logs_replay, made_forms_tell_trees_apart, unfoldings_are_of_kids,
 };
+pub use turn_laws::{logs_have_the_turns, trees_have_one_entry};
 pub use turns::{Entered, Turn};
 pub use used::{is_marked, used_entries};

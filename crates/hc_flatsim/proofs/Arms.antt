@@ -4,18 +4,24 @@ use Rattle.std.specs.Prelude.{◌==◌, slice_get, slice_set, slice_index, Optio
 use Rattle.std.proofs.lemmas.Option.{slice_get_within, slice_get-map, same_Some}
 use Rattle.std.proofs.lemmas.List.{length-map}
 use Rattle.hc_bits.specs.BitVector.{BitVector, mux, cat_all}
+use Rattle.hc_bits.specs.Catalogue.{operation}
+use Rattle.hc_bits.specs.declared.kind.OpKind.{OpKind}
+use Rattle.hc_ops.specs.Arguments.{AreLawful}
 use Rattle.hc_signal.specs.Member.{Has, first, later}
 use Rattle.hc_signal.specs.declared.signal.NodeId.{NodeId}
 use Rattle.hc_signal.specs.declared.signal.MemId.{MemId}
 use Rattle.hc_signal.specs.declared.signal.NodeRow.{NodeRow}
+use Rattle.hc_signal.specs.declared.signal.Op2.{Op2}
 use Rattle.hc_signal.specs.declared.signal.Node.{Node}
-use Rattle.hc_signal.specs.declared.signal.Node.TheVariants.{Input, Mux, Cat, Select, Reg, Read}
+use Rattle.hc_signal.specs.declared.signal.Node.TheVariants.{Input, Two, Mux, Cat, Select, Reg, Read, Op}
 use Rattle.hc_signal.specs.Graph.{Graph}
 use Rattle.hc_signal.specs.Lawful.{IsLawful, IsLawfulNode}
+use Rattle.hc_signal.specs.Operators.{binary}
 use Rattle.hc_flatsim.specs.Machine.{widths, node_widths, memory_widths, numbers, number_of, number_at, words_of, words_at, word_or_zero}
 use Rattle.hc_flatsim.specs.Settling.{Given, IsGiven, operand, own_vector, AreWithin}
-use Rattle.hc_flatsim.proofs.Shapes.{many, found, same_set, id_within, value_within}
-use Rattle.hc_flatsim.proofs.Computing.{arm, parts_within, parts_widths, cat_width, mux_width, cases_widths}
+use Rattle.hc_flatsim.proofs.Shapes.{many, found, same_set, id_within, operand_width, value_within}
+use Rattle.hc_flatsim.proofs.Computing.{arm, all_within, parts_within, parts_widths, cat_width, mux_width, cases_widths}
+use Rattle.hc_flatsim.proofs.Operations.{binary_width, one_width, operation_width}
 use Rattle.hc_flatsim.proofs.Registers.{read_at, alike}
 use Rattle.hc_flatsim.proofs.Ports.{output_is}
 
@@ -67,6 +73,14 @@ module _ (g : Graph) (l : IsLawful g) (given : Given) (fits : IsGiven g given) (
   pub node_lawful : (x : Node) → row.node ≡ x → IsLawfulNode g row.width x
   node_lawful x is = subst (λ (z : Node). IsLawfulNode g row.width z) is (l.nodes n row at).1
 
+  pub two_arm : (op : Op2) (a b : NodeId) (y z x : BitVector) → row.node ≡ Two op a b → y ≡ operand g values a → z ≡ operand g values b → x ≡ binary op y z → x ≡ own_vector g given values n row
+  two_arm op a b y z x is ey ez e =
+      let h = node_lawful (Two op a b) is in
+      let whole : x ≡ binary op (operand g values a) (operand g values b) = e ∙ ap₂ (binary op) ey ez in
+      arm g given values n row (Two op a b) x is
+      (ap (λ (b : BitVector). b.width) whole ∙ binary_width op (operand g values a) (operand g values b) h.0 h.1 row.width (operand_width g values a h.0 h.2) (operand_width g values b h.1 h.3) h.4)
+      (ap (λ (b : BitVector). b.value) whole)
+
   pub cat_within : (parts all : List NodeId) → row.node ≡ Cat parts → all ≡ parts → AreWithin g all
   cat_within parts all is same = let h = node_lawful (Cat parts) is in subst (λ (p : List NodeId). AreWithin g p) (sym same) (parts_within g parts h.0 h.2)
 
@@ -91,6 +105,23 @@ module _ (g : Graph) (l : IsLawful g) (given : Given) (fits : IsGiven g given) (
       let some : 1 ≤ length (map (operand g values) cases) = subst (λ k. 1 ≤ k) (sym (length-map cases (operand g values))) (omega (arith, two)) in
       arm g given values n row (Mux sel cases) x is
       (ap (λ (b : BitVector). b.width) whole ∙ mux_width (operand g values sel) (map (operand g values) cases) row.width some (cases_widths g values cases row.width h.4))
+      (ap (λ (b : BitVector). b.value) whole)
+
+  pub operation_within : (kind : OpKind) (args all : List NodeId) → row.node ≡ Op kind args → all ≡ args → AreWithin g all
+  operation_within kind args all is same = let h = node_lawful (Op kind args) is in subst (λ (p : List NodeId). AreWithin g p) (sym same) (all_within g args h.0 h.2)
+
+  pub operation_lawful : (kind : OpKind) (args all : List NodeId) → row.node ≡ Op kind args → all ≡ args → AreLawful kind (map (operand g values) all)
+  operation_lawful kind args all is same =
+      let h = node_lawful (Op kind args) is in
+      subst (λ (p : List NodeId). AreLawful kind (map (operand g values) p)) (sym same)
+      (length-map args (operand g values) ∙ h.1, one_width (map (operand g values) args) h.0 (cases_widths g values args h.0 h.2))
+
+  pub operation_arm : (kind : OpKind) (args all : List NodeId) (x : BitVector) → row.node ≡ Op kind args → all ≡ args → x ≡ operation kind (map (operand g values) all) → x ≡ own_vector g given values n row
+  operation_arm kind args all x is same e =
+      let h = node_lawful (Op kind args) is in
+      let whole : x ≡ operation kind (map (operand g values) args) = e ∙ ap (λ (p : List NodeId). operation kind (map (operand g values) p)) same in
+      arm g given values n row (Op kind args) x is
+      (ap (λ (b : BitVector). b.width) whole ∙ operation_width kind (map (operand g values) args) h.0 (length-map args (operand g values) ∙ h.1) (cases_widths g values args h.0 h.2) ∙ sym h.3)
       (ap (λ (b : BitVector). b.value) whole)
 
   pub select_within : (a : NodeId) (hi lo : ℕ) → row.node ≡ Select a hi lo → a.0 < length g.nodes

@@ -1,6 +1,7 @@
 pub mod Shapes
 pub mod Changes
 pub mod Computing
+pub mod Operations
 pub mod Settled
 pub mod Registers
 pub mod Held
@@ -13,5 +14,4 @@ pub mod Started
 pub mod Arms
 pub mod WordWidths
 pub mod Made
-pub mod NoOps
 pub mod Planned

@@ -1,16 +1,15 @@
 -- A step of the plan makes the value of its node.
-use Rattle.std.proofs.Common.{◌≡◌, ℕ, ◌+◌, ◌<◌, List, [], ◌∷◌, map, length, get_or, refl, sym, subst, ◌∙◌, ap, ap₂}
+use Rattle.std.proofs.Common.{◌≡◌, ℕ, ◌<◌, List, [], ◌∷◌, map, length, get_or, refl, sym, subst, ◌∙◌, ap}
 use Rattle.std.specs.Prelude.{slice_get, slice_set, Option, Some, None, option_map}
 use Rattle.std.proofs.lemmas.Option.{slice_get-get_or, slice_get-map, same_Some}
 use Rattle.hc_bits.specs.BitVector.{BitVector, mux, not_, select}
 use Rattle.hc_signal.specs.declared.signal.NodeId.{NodeId}
 use Rattle.hc_signal.specs.declared.signal.NodeRow.{NodeRow}
 use Rattle.hc_signal.specs.declared.signal.Op2.{Op2}
-use Rattle.hc_signal.specs.declared.signal.Op2.TheVariants.{Add, Sub, Mulu, Muls, And, Or, Xor, Eq, Lt}
 use Rattle.hc_signal.specs.declared.signal.Node.{Node}
 use Rattle.hc_signal.specs.declared.signal.Node.TheVariants.{Input, Wire, Const, Two, Not, Mux, Cat, Select, Reg, Read, InstOut, Op}
 use Rattle.hc_signal.specs.Graph.{Graph}
-use Rattle.hc_signal.specs.Lawful.{FitsTwo, HasWidth, IsLawful, IsLawfulNode}
+use Rattle.hc_signal.specs.Lawful.{HasWidth, IsLawful, IsLawfulNode}
 use Rattle.hc_signal.specs.Operators.{binary}
 use Rattle.hc_flatsim.specs.declared.plan.Make.{Make}
 use Rattle.hc_flatsim.specs.declared.plan.Make.TheVariants.{Same, Binary, Complement, Part, Choice, FromPort, Held, Row}
@@ -18,7 +17,7 @@ use Rattle.hc_flatsim.specs.declared.plan.Step.{Step}
 use Rattle.hc_flatsim.specs.Plan.{make_of, make_of_row, plan_of, planned, step_of}
 use Rattle.hc_flatsim.specs.Machine.{node_widths, widths}
 use Rattle.hc_flatsim.specs.Settling.{operand, own_vector, with_row, Given, IsGiven}
-use Rattle.hc_flatsim.proofs.Arms.{input_arm, mux_arm, node_lawful, register_arm, value_set}
+use Rattle.hc_flatsim.proofs.Arms.{input_arm, mux_arm, node_lawful, register_arm, two_arm, value_set}
 use Rattle.hc_flatsim.proofs.Computing.{arm}
 use Rattle.hc_flatsim.proofs.Shapes.{operand_width}
 
@@ -83,18 +82,6 @@ step_is g steps k d e b =
     (sym at ∙ ap (λ (l : List Step). slice_get l k) e ∙ slice_get-map (step_of g) (planned steps) k
     ∙ ap (option_map (step_of g)) (slice_get-map (λ (t : Step). t.id) steps k ∙ ap (option_map (λ (t : Step). t.id)) at))
 
--- an operator gives the width that its operands fit
-binary_width : (op : Op2) (x y : BitVector) (v u w : ℕ) → x.width ≡ v → y.width ≡ u → FitsTwo op v u w → (binary op x y).width ≡ w
-binary_width Add x y v u w e f h = e ∙ sym h.1
-binary_width Sub x y v u w e f h = e ∙ sym h.1
-binary_width Mulu x y v u w e f h = ap₂ (λ (i j : ℕ). i + j) e f ∙ sym h
-binary_width Muls x y v u w e f h = ap₂ (λ (i j : ℕ). i + j) e f ∙ sym h
-binary_width And x y v u w e f h = e ∙ sym h.1
-binary_width Or x y v u w e f h = e ∙ sym h.1
-binary_width Xor x y v u w e f h = e ∙ sym h.1
-binary_width Eq x y v u w e f h = sym h.1
-binary_width Lt x y v u w e f h = sym h.1
-
 -- ---- the values after a step
 
 module _ (g : Graph) (l : IsLawful g) (given : Given) (fits : IsGiven g given) (values : List BitVector) (many : widths values ≡ node_widths g.nodes) (s : Step) (is_step : s ≡ step_of g s.id) where
@@ -120,12 +107,7 @@ module _ (g : Graph) (l : IsLawful g) (given : Given) (fits : IsGiven g given) (
   pub binary_step : (op : Op2) (a b : NodeId) (y z x : BitVector) → s.make ≡ Binary op a b → y ≡ operand g values a → z ≡ operand g values b → x ≡ binary op y z → IsStep x
   binary_step op a b y z x is ey ez e =
       let r : IsMadeRow (Binary op a b) (slice_get g.nodes s.id.0) = step_made g s (Binary op a b) is_step is in
-      let h : IsLawfulNode g r.0.width (Two op a b) = node_lawful g l given fits values s.id.0 r.0 r.1 (Two op a b) r.2 in
-      let whole : x ≡ binary op (operand g values a) (operand g values b) = e ∙ ap₂ (binary op) ey ez in
-      placed r.0 x r.1
-      (arm g given values s.id.0 r.0 (Two op a b) x r.2
-      (ap (λ (b : BitVector). b.width) whole ∙ binary_width op (operand g values a) (operand g values b) h.0 h.1 r.0.width (operand_width g values a h.0 h.2) (operand_width g values b h.1 h.3) h.4)
-      (ap (λ (b : BitVector). b.value) whole))
+      placed r.0 x r.1 (two_arm g l given fits values s.id.0 r.0 r.1 op a b y z x r.2 ey ez e)
 
   pub complement_step : (a : NodeId) (y x : BitVector) → s.make ≡ Complement a → y ≡ operand g values a → x ≡ not_ y → IsStep x
   complement_step a y x is ey e =

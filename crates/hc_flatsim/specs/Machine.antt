@@ -8,7 +8,7 @@ use Rattle.hc_signal.specs.declared.signal.NodeRow.{NodeRow}
 use Rattle.hc_signal.specs.declared.signal.Port.{Port}
 use Rattle.hc_signal.specs.declared.signal.Memory.{Memory}
 use Rattle.hc_signal.specs.declared.signal.Node.{Node}
-use Rattle.hc_signal.specs.declared.signal.Node.TheVariants.{Reg, Op}
+use Rattle.hc_signal.specs.declared.signal.Node.TheVariants.{Reg}
 use Rattle.hc_signal.specs.Graph.{Graph, mem, Reached}
 use Rattle.hc_signal.specs.Lawful.{IsLawful}
 use Rattle.hc_signal.specs.Checked.{IsChecked}
@@ -112,20 +112,11 @@ simulation_of m = record {
   after = numbers m.after;
 }
 
-abbrev pub IsNoOp : Node → Type 0
-IsNoOp (Op kind args) = ⊥
-IsNoOp other = Unit {0}
-
--- no node of the circuit is an operation
-abbrev pub HasNoOps : Graph → Type 0
-HasNoOps g = (n : ℕ) (row : NodeRow) → slice_get g.nodes n ≡ Some row → IsNoOp row.node
-
 -- A circuit that a flat simulator takes.
 pub record IsFlatCircuit (g : Graph) : Type 0 where
   pub checked : IsChecked g
   pub instances : g.instances ≡ []
   pub no_loop : ¬ HasCombLoop (leaf g)
-  pub no_ops : HasNoOps g
 
 -- What is known holds: at rest the values v are settled and a clock edge leaves the state as it is.
 abbrev pub IsKnown : Known → Tree → State → List ℕ → (Occurrence → ℕ) → Type 0

@@ -4,9 +4,10 @@ ghost use Rattle.hc_bits.specs.BitVector.{IsWidth};
 ghost use Rattle.hc_flatsim.specs.Machine.{node_widths, widths, word_or_zero, words_at};
 ghost use Rattle.hc_flatsim.specs.Settling.{own_vector, IsGiven};
 
-use crate::operands::{cat, mux, operand, two};
+use crate::operands::{cat, mux, operand, operation, two};
 use crate::words::{Words, zero};
 use hc_bits::Bits;
+use hc_ops::OpTable;
 use hc_signal::{Circuit, MemId, Node, NodeId, NodeRow};
 
 /// The word of a memory at an address, 0 past its end.
@@ -24,6 +25,7 @@ fn read(memories: &[Words], mem: MemId, addr: Bits, width: u32) -> Bits
 /// The value of a node from those of its operands.
 pub fn compute(
     circuit: &Circuit,
+    ops: &OpTable,
     registers: &[Bits],
     memories: &[Words],
     inputs: &[Bits],
@@ -63,7 +65,8 @@ pub fn compute(
             operand(circuit, values, *addr),
             row.width,
         ),
-        // there is no instance and no operation
-        Node::InstOut { .. } | Node::Op { .. } => zero(row.width),
+        Node::Op { kind, args } => operation(circuit, ops, values, *kind, args.as_slice()),
+        // there is no instance
+        Node::InstOut { .. } => zero(row.width),
     }
 }

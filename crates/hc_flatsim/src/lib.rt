@@ -6,12 +6,11 @@ mod edges;
 mod flat;
 mod inputs;
 mod known;
+mod machine;
 mod make;
 mod operands;
-mod ops;
 mod plan;
 mod settle;
 mod words;
 
 pub use flat::FlatSim;
-pub use ops::has_no_ops;

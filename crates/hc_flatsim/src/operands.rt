@@ -1,11 +1,14 @@
 //! What operators make of the values of their operands.
 ghost use Rattle.std.specs.Prelude.{◌≡◌, ◌<◌, ◌≤◌, length, map};
 ghost use Rattle.hc_bits.specs.BitVector.{cat_all, mux};
+ghost use Rattle.hc_bits.specs.Catalogue.{operation};
+ghost use Rattle.hc_ops.specs.Arguments.{AreLawful};
 ghost use Rattle.hc_signal.specs.Operators.{binary};
 ghost use Rattle.hc_flatsim.specs.Machine.{node_widths, widths};
 ghost use Rattle.hc_flatsim.specs.Settling.{operand, AreWithin, IsTwo};
 
-use hc_bits::Bits;
+use hc_bits::{Bits, OpKind};
+use hc_ops::OpTable;
 use hc_signal::{Circuit, NodeId, Op2};
 
 /// The value of an operand.
@@ -66,5 +69,26 @@ pub fn cat(circuit: &Circuit, values: &[Bits], parts: &[NodeId]) -> Bits
                 high.cat(cat(circuit, values, rest))
             }
         }
+    }
+}
+
+/// The value of an operation.
+pub fn operation(
+    circuit: &Circuit,
+    ops: &OpTable,
+    values: &[Bits],
+    kind: OpKind,
+    args: &[NodeId],
+) -> Bits
+    requires values { widths values.now ≡ node_widths circuit.now.nodes }
+    requires within { AreWithin circuit.now args.now }
+    requires lawful { AreLawful kind (map (operand circuit.now values.now) args.now) }
+    ensures { result ≡ operation kind (map (operand circuit.now values.now) args.now) }
+{
+    let op = ops.find(kind);
+    match args {
+        [a] => op.call(&[operand(circuit, values, *a)]),
+        [a, b] => op.call(&[operand(circuit, values, *a), operand(circuit, values, *b)]),
+        _ => unreachable!(),
     }
 }

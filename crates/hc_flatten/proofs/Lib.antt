@@ -14,3 +14,4 @@ pub mod Elaborated
 pub mod Transfer
 pub mod Lawfully
 pub mod Flattens
+pub mod Existing

@@ -6,3 +6,4 @@ pub mod OneText
 pub mod FirstPlaces
 pub mod Reaching
 pub mod OfTrees
+pub mod Existing

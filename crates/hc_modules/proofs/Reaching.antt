@@ -2,7 +2,9 @@
 use Rattle.std.proofs.Common.{◌≡◌, ℕ, ◌<◌, List, [], ◌∷◌, length, refl, sym, ap, subst, ◌∙◌, arith}
 use Rattle.std.proofs.lemmas.Option.{slice_get_within}
 use Rattle.std.specs.Prelude.{slice_get, Some}
+use Rattle.hc_signal.specs.declared.signal.Instance.{Instance}
 use Rattle.hc_signal.specs.Graph.{Graph, inst, Reached}
+use Rattle.hc_signal.specs.Lawful.{IsLawful}
 use Rattle.hc_signal.specs.Tree.{Tree, graph, kid as kid_of}
 use Rattle.hc_signal.specs.Occurrences.{IsReachedPath, tree_at}
 use Rattle.hc_walk.proofs.Members.{has_slice}
@@ -78,3 +80,7 @@ module _ (h : History) (legal : IsLegal h) where
         let p = path_entry within path r in
         let is : p.0 ≡ id = unfoldings_once h legal p.0 id p.2 lt (subst (λ (t : Tree). Same t (unfolding_of h.entries id)) p.3 same) in
         subst (Uses h.entries top) is p.1
+
+-- a reached instance of a lawful circuit is there
+pub reached_instance : (g : Graph) → IsLawful g → (i : ℕ) → Reached g (inst i) → (it : Instance) × (slice_get g.instances i ≡ Some it)
+reached_instance g l i r = let row : HasRow g (inst i) = reached_row g l r in (row.0, row.1)

@@ -1,3 +1,4 @@
 pub mod HierarchyText
 pub mod Pieces
 pub mod VerilogText
+pub mod Writable

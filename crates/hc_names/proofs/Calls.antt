@@ -2,7 +2,6 @@
 use Rattle.std.proofs.Common.{◌≡◌, ℕ, ◌+◌, ◌<◌, ◌≤◌, List, [], ◌∷◌, ◌++◌, length, map, drop, get_or, flat_map, refl, sym, ap, subst, ◌∙◌}
 use Rattle.std.proofs.lemmas.List.{at_drop_more, map-append}
 use Rattle.std.proofs.Math.ListN.{drop_of_length-le}
-use Rattle.hc_canon.specs.declared.form.EntryId.{EntryId}
 use Rattle.hc_dbstate.specs.declared.hier.Hier.{Hier, out-Hier}
 use Rattle.hc_dbstate.specs.declared.hier.Hier.TheFolds.{fold_out-Hier}
 use Rattle.hc_dbstate.specs.Elaboration.{HierView, CallView, hier_view, hier_level, walk}

@@ -6,3 +6,4 @@ pub mod Rows
 pub mod Steps
 pub mod Calls
 pub mod RowLaws
+pub mod Existing

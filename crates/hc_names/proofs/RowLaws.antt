@@ -15,7 +15,7 @@ use Rattle.hc_names.specs.Mangling.{numbered, IsMangled}
 use Rattle.hc_names.specs.NameRows.{name_of_entry}
 use Rattle.hc_names.specs.Naming.{Given, NamedTree, NameRow, IsNameAfter, AreNamesAfter, named_tree, is_among, first_rows}
 use Rattle.hc_names.specs.Steps.{NamesTo, names_in, requests}
-use Rattle.hc_names.proofs.Members.{has_map, has_left, has_right, has_cases}
+use Rattle.hc_names.proofs.Members.{has_left, has_right, has_cases}
 
 -- ---- a row more
 

@@ -1,6 +1,5 @@
 -- Names given call by call.
-use Rattle.std.proofs.Common.{◌≡◌, ℕ, List, [], ◌∷◌, ◌++◌, map, refl, sym, ap, subst, ◌∙◌, ◌⊎◌, inl, inr}
-use Rattle.std.specs.Prelude.{Option, Some, None}
+use Rattle.std.proofs.Common.{List, [], ◌∷◌, ◌++◌, subst, inl, inr}
 use Rattle.hc_names.specs.Naming.{NameRow}
 use Rattle.hc_names.specs.Steps.{NamesTo}
 

@@ -1,7 +1,6 @@
 -- Names given call by call, to entries that have none yet.
-use Rattle.std.specs.Prelude.{◌≡◌, ℕ, ◌⊎◌, ◌<◌, List, [], ◌∷◌, ◌++◌, map, length, Some, None}
-use Rattle.hc_dbstate.specs.declared.hier.Hier.{Hier}
-use Rattle.hc_dbstate.specs.Elaboration.{CallRow, CallView, walk}
+use Rattle.std.specs.Prelude.{◌≡◌, ℕ, ◌⊎◌, List, [], ◌∷◌, ◌++◌, map, Some, None}
+use Rattle.hc_dbstate.specs.Elaboration.{CallView}
 use Rattle.hc_names.specs.Mangling.{IsMangled}
 use Rattle.hc_names.specs.NameRows.{name_of_entry}
 use Rattle.hc_names.specs.Naming.{NameRow}

@@ -5,3 +5,4 @@ pub mod Wanted
 pub mod Slots
 pub mod Taking
 pub mod Marks
+pub mod Takeable

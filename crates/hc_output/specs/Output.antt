@@ -23,7 +23,7 @@ IsVerilogFor true title e text = IsFlatText e.tree title text
 abbrev pub listing_for : Elaborated → List CycleRow → List ℕ
 listing_for e rows = listing (graph e.tree).ports.outputs rows
 
--- `gen` is not built yet.
+-- `gen` writes nothing yet: no list of words asks for it.
 abbrev pub IsOutput : Verb → Bool → List ℕ → Elaborated → List CycleRow → List ℕ → Type 0
 IsOutput verb.Verilog flat title e rows out = IsVerilogFor flat title e out
 IsOutput verb.Sim flat title e rows out = out ≡ listing_for e rows

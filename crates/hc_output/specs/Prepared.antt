@@ -15,7 +15,6 @@ use Rattle.hc_bench.specs.Steps.{AreStepsFor}
 use Rattle.hc_bench.specs.Listing.{CycleRow, listing}
 use Rattle.hc_bench.specs.Trace.{IsRun}
 use Rattle.hc_plan.specs.Elaborates.{Elaborated}
-use Rattle.hc_flatsim.specs.Machine.{HasNoOps}
 use Rattle.hc_output.specs.Output.{IsOutput}
 use Rattle.hc_output.specs.declared.kinds.Played.{Played}
 use Rattle.hc_output.specs.declared.kinds.Output.{Output}
@@ -34,7 +33,6 @@ pub record IsPlayable (g : Graph) (ss : List Step) : Type 0 where
   pub checked : IsChecked g
   pub instances : g.instances ≡ []
   pub no_loop : ¬ HasCombLoop (leaf g)
-  pub no_ops : HasNoOps g
   pub steps : AreStepsFor g.ports.inputs ss
 
 -- the listing of the run of a circuit

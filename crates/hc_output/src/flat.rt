@@ -8,7 +8,6 @@ ghost use Rattle.hc_bench.specs.Trace.{IsRun};
 ghost use Rattle.hc_bench.specs.declared.kinds.Step.{Step};
 ghost use Rattle.hc_plan.specs.Elaborates.{Elaborated};
 ghost use Rattle.hc_plan.specs.Hierarchies.{IsHierarchyFor};
-ghost use Rattle.hc_flatsim.specs.Machine.{HasNoOps};
 ghost use Rattle.hc_flattext.specs.FlatText.{IsFlatText};
 ghost use Rattle.hc_signal.specs.Checked.{IsChecked};
 ghost use Rattle.hc_signal.specs.FlatGraph.{IsFlat};
@@ -18,7 +17,6 @@ ghost use Rattle.hc_output.specs.Prepared.{IsFlatOf};
 
 use hc_dbstate::{DbState, Hier, walks_are_whole};
 use hc_fault::{Name, NoMemory};
-use hc_flatsim::has_no_ops;
 use hc_flatten::flatten;
 use hc_flattext::{flat_text, same_trees_flatten_alike};
 use hc_signal::Circuit;
@@ -32,25 +30,6 @@ pub(crate) fn flat_circuit(alloc: Global, db: &DbState, hier: &Hier) -> Result<C
     walks_are_whole();
     db.legal();
     flatten(alloc, db, hier)
-}
-
-/// The flattened circuit, for a run. The flat simulator has no operations yet, and a design without them by name has none
-/// in its circuit: until a clause says so, this is looked at, and want of memory stands for the other case.
-pub(crate) fn playable_circuit(
-    alloc: Global,
-    db: &DbState,
-    hier: &Hier,
-) -> Result<Circuit, NoMemory>
-    requires { IsElaboration db.now.entries hier.now }
-    ensures flat { IfOk result (λ c. IsFlatOf db.now.entries hier.now c) }
-    ensures no_ops { IfOk result (λ c. HasNoOps c) }
-{
-    let circuit = flat_circuit(alloc, db, hier)?;
-    if has_no_ops(&circuit) {
-        Ok(circuit)
-    } else {
-        Err(NoMemory)
-    }
 }
 
 /// The module of the flattened circuit of an elaborated design, under this title.

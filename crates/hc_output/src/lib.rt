@@ -2,13 +2,17 @@
 #![tactic(auto)]
 
 mod flat;
+mod flat_laws;
 mod kinds;
 mod laws;
 mod make;
 mod modules;
 mod send;
+mod verilog_laws;
 
+pub use flat_laws::flat_texts_exist;
 pub use kinds::Output;
 pub use laws::outputs_are_single;
 pub use make::prepare_output;
 pub use send::{SendStop, write_output};
+pub use verilog_laws::verilog_texts_exist;

@@ -3,20 +3,20 @@ ghost use Rattle.hc_bench.specs.Steps.{AreStepsFor};
 ghost use Rattle.hc_dbstate.specs.Elaboration.{IsElaboration, hier_view};
 ghost use Rattle.hc_dbstate.specs.Unfolding.{unfolding_of};
 ghost use Rattle.hc_plan.specs.Elaborates.{Elaborated};
-ghost use Rattle.hc_plan.specs.Hierarchies.{IsHierarchyFor, LogsWalk};
+ghost use Rattle.hc_plan.specs.Hierarchies.{AreCalled, IsHierarchyFor};
 ghost use Rattle.hc_signal.specs.Occurrences.{HasCombLoop};
 ghost use Rattle.hc_signal.specs.Tree.{graph};
-ghost use Rattle.hc_words.specs.declared.job.Verb.TheVariants as verb;
+ghost use Rattle.hc_words.specs.declared.job.Verb.TheVariants as verbs;
 ghost use Rattle.hc_output.specs.Output.{IsServed, IsVerilogFor};
 ghost use Rattle.hc_output.specs.Prepared.{HasOutput, IsFlatOf, IsReady};
 
-use crate::flat::{flat_circuit, playable_circuit, title_text};
+use crate::flat::{flat_circuit, title_text};
 use crate::kinds::{Output, Played};
 use crate::modules::modules_text;
 use hc_bench::kinds::Bench;
 use hc_dbstate::{DbState, Hier};
-use hc_plan::elaborated_trees;
 use hc_fault::{Name, NoMemory};
+use hc_plan::elaborated_trees;
 use hc_signal::Circuit;
 use hc_summary::summary;
 use hc_traces::{benches_have_runs, flat_graphs_run_alike, same_trees_run_alike};
@@ -74,14 +74,14 @@ fn verilog_output(
     requires elaboration { IsElaboration db.now.entries hier.now }
     requires steps { AreStepsFor (graph (unfolding_of db.now.entries (hier_view hier.now).own.entry)).ports.inputs bench.now.steps }
     ensures ready { IfOk result IsReady }
-    ensures out { IfOk result (λ o. (e : Elaborated) → IsHierarchyFor db.now.entries hier.now e → ¬ HasCombLoop e.tree → HasOutput verb.Verilog flat title.now e bench.now.steps o) }
+    ensures out { IfOk result (λ o. (e : Elaborated) → IsHierarchyFor db.now.entries hier.now e → ¬ HasCombLoop e.tree → HasOutput verbs.Verilog flat title.now e bench.now.steps o) }
 {
     benches_have_runs();
     let text = verilog_text(alloc, flat, title, db, hier)?;
     Ok(Output { text, played: None })
 }
 
-/// What `stat` writes.
+/// What `stat` writes, where each entry of the database is that of a call.
 fn stat_output(
     alloc: Global,
     flat: bool,
@@ -93,7 +93,7 @@ fn stat_output(
     requires elaboration { IsElaboration db.now.entries hier.now }
     requires steps { AreStepsFor (graph (unfolding_of db.now.entries (hier_view hier.now).own.entry)).ports.inputs bench.now.steps }
     ensures ready { IfOk result IsReady }
-    ensures out { IfOk result (λ o. (e : Elaborated) → IsHierarchyFor db.now.entries hier.now e → LogsWalk (record { entries = []; turns = [] }) db.now hier.now → ¬ HasCombLoop e.tree → HasOutput verb.Stat flat title.now e bench.now.steps o) }
+    ensures out { IfOk result (λ o. (e : Elaborated) → IsHierarchyFor db.now.entries hier.now e → AreCalled db.now.entries hier.now → ¬ HasCombLoop e.tree → HasOutput verbs.Stat flat title.now e bench.now.steps o) }
 {
     benches_have_runs();
     let text = summary(alloc, db, hier, bench)?;
@@ -112,12 +112,12 @@ fn sim_output(
     requires elaboration { IsElaboration db.now.entries hier.now }
     requires steps { AreStepsFor (graph (unfolding_of db.now.entries (hier_view hier.now).own.entry)).ports.inputs bench.steps }
     ensures ready { IfOk result IsReady }
-    ensures out { IfOk result (λ o. (e : Elaborated) → IsHierarchyFor db.now.entries hier.now e → HasOutput verb.Sim flat title.now e bench.steps o) }
+    ensures out { IfOk result (λ o. (e : Elaborated) → IsHierarchyFor db.now.entries hier.now e → HasOutput verbs.Sim flat title.now e bench.steps o) }
 {
     benches_have_runs();
     flat_graphs_run_alike();
     same_trees_run_alike();
-    let circuit = playable_circuit(alloc, db, hier)?;
+    let circuit = flat_circuit(alloc, db, hier)?;
     circuit.lawful();
     Ok(Output {
         text: Vec::new(alloc),
@@ -137,12 +137,12 @@ fn both_output(
     requires elaboration { IsElaboration db.now.entries hier.now }
     requires steps { AreStepsFor (graph (unfolding_of db.now.entries (hier_view hier.now).own.entry)).ports.inputs bench.steps }
     ensures ready { IfOk result IsReady }
-    ensures out { IfOk result (λ o. (e : Elaborated) → IsHierarchyFor db.now.entries hier.now e → HasOutput verb.Both flat title.now e bench.steps o) }
+    ensures out { IfOk result (λ o. (e : Elaborated) → IsHierarchyFor db.now.entries hier.now e → HasOutput verbs.Both flat title.now e bench.steps o) }
 {
     benches_have_runs();
     flat_graphs_run_alike();
     same_trees_run_alike();
-    let circuit = playable_circuit(alloc, db, hier)?;
+    let circuit = flat_circuit(alloc, db, hier)?;
     circuit.lawful();
     let mut text = verilog_with(alloc, flat, title, db, hier, &circuit)?;
     text.push(b'\n')?;
@@ -153,7 +153,7 @@ fn both_output(
 }
 
 /// What a command writes for the hierarchy of a design, with all memory for it but the simulator's. The title is the name
-/// of the flattened circuit's module.
+/// of the flattened circuit's module. For `stat` each entry of the database is to be that of a call.
 pub fn prepare_output(
     alloc: Global,
     verb: Verb,
@@ -167,7 +167,7 @@ pub fn prepare_output(
     requires served { IsServed verb }
     requires steps { AreStepsFor (graph (unfolding_of db.now.entries (hier_view hier.now).own.entry)).ports.inputs bench.steps }
     ensures ready { IfOk result IsReady }
-    ensures out { IfOk result (λ o. (e : Elaborated) → IsHierarchyFor db.now.entries hier.now e → LogsWalk (record { entries = []; turns = [] }) db.now hier.now → ¬ HasCombLoop e.tree → HasOutput verb flat title.now e bench.steps o) }
+    ensures out { IfOk result (λ o. (e : Elaborated) → IsHierarchyFor db.now.entries hier.now e → (verb ≡ verbs.Stat → AreCalled db.now.entries hier.now) → ¬ HasCombLoop e.tree → HasOutput verb flat title.now e bench.steps o) }
 {
     match verb {
         Verb::Verilog => verilog_output(alloc, flat, title, db, hier, &bench),

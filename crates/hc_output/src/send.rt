@@ -5,7 +5,6 @@ ghost use Rattle.hc_outside.specs.Causes.{HasCause, Rose};
 ghost use Rattle.hc_outside.specs.Moves.{AppendsFront};
 ghost use Rattle.hc_bench.specs.Listing.{listing};
 ghost use Rattle.hc_bench.specs.Trace.{IsAtStart};
-ghost use Rattle.hc_flatsim.specs.Machine.{simulation_of};
 ghost use Rattle.hc_signal.specs.Tree.{leaf};
 ghost use Rattle.hc_output.specs.Prepared.{IsListing, IsPlayable, IsReady, IsTextOf};
 ghost use Rattle.hc_output.specs.declared.send.SendStop.TheVariants as stop;
@@ -13,6 +12,7 @@ ghost use Rattle.hc_output.specs.declared.send.SendStop.TheVariants as stop;
 use crate::kinds::{Output, Played};
 use hc_bench::{Sim, play};
 use hc_flatsim::FlatSim;
+use hc_ops::OpTable;
 use hc_outside::{Failed, Sink, write_all};
 use hc_traces::{listings_are_of_runs, parts_of_listings_are_fronts, same_trees_run_alike};
 use std::alloc::Global;
@@ -27,13 +27,9 @@ pub enum SendStop {
 }
 
 /// Writes the listing of a run from the start.
-fn play_from_start<'a, K: Sink>(
-    sim: &mut FlatSim<'a>,
-    played: &Played,
-    to: &mut K,
-) -> Result<(), Failed>
-    requires tree { (simulation_of sim.old).tree ≡ leaf played.now.circuit }
-    requires start { IsAtStart (simulation_of sim.old) }
+fn play_from_start<S: Sim, K: Sink>(sim: &mut S, played: &Played, to: &mut K) -> Result<(), Failed>
+    requires tree { (S.runs sim.old).tree ≡ leaf played.now.circuit }
+    requires start { IsAtStart (S.runs sim.old) }
     requires playable { IsPlayable played.now.circuit played.now.bench.steps }
     ensures all { (out : List ℕ) → IsListing played.now out → OnOk result (Appends (K.taken to.old) (K.taken to.new) out) }
     ensures front { (out : List ℕ) → IsListing played.now out → OnErr result (AppendsFront (K.taken to.old) (K.taken to.new) out) }
@@ -47,14 +43,14 @@ fn play_from_start<'a, K: Sink>(
 }
 
 /// Writes a text and then the listing of a run from the start.
-fn send_both<'a, K: Sink>(
-    sim: &mut FlatSim<'a>,
+fn send_both<S: Sim, K: Sink>(
+    sim: &mut S,
     text: &[u8],
     played: &Played,
     to: &mut K,
 ) -> Result<(), Failed>
-    requires tree { (simulation_of sim.old).tree ≡ leaf played.now.circuit }
-    requires start { IsAtStart (simulation_of sim.old) }
+    requires tree { (S.runs sim.old).tree ≡ leaf played.now.circuit }
+    requires start { IsAtStart (S.runs sim.old) }
     requires playable { IsPlayable played.now.circuit played.now.bench.steps }
     ensures all { (out : List ℕ) → IsListing played.now out → OnOk result (Appends (K.taken to.old) (K.taken to.new) (text.now ++ out)) }
     ensures front { (out : List ℕ) → IsListing played.now out → OnErr result (AppendsFront (K.taken to.old) (K.taken to.new) (text.now ++ out)) }
@@ -78,7 +74,12 @@ fn stopped(sent: Result<(), Failed>) -> Result<(), SendStop>
 
 /// Writes what was prepared: its text, and then the listing of its run. It fails where the sink's count of faults rose,
 /// and a front was written then; or for want of memory for the simulator, before anything was written.
-pub fn write_output<K: Sink>(alloc: Global, output: &Output, to: &mut K) -> Result<(), SendStop>
+pub fn write_output<K: Sink>(
+    alloc: Global,
+    ops: &OpTable,
+    output: &Output,
+    to: &mut K,
+) -> Result<(), SendStop>
     requires { IsReady output.now }
     ensures all { (out : List ℕ) → IsTextOf output.now out → OnOk result (Appends (K.taken to.old) (K.taken to.new) out) }
     ensures front { (out : List ℕ) → IsTextOf output.now out → IsErrOf result stop.Failed → AppendsFront (K.taken to.old) (K.taken to.new) out }
@@ -87,7 +88,7 @@ pub fn write_output<K: Sink>(alloc: Global, output: &Output, to: &mut K) -> Resu
 {
     match &output.played {
         None => stopped(write_all(to, &output.text)),
-        Some(played) => match FlatSim::new(alloc, &played.circuit) {
+        Some(played) => match FlatSim::new(alloc, &played.circuit, ops) {
             Ok(mut sim) => stopped(send_both(&mut sim, &output.text, played, to)),
             Err(_) => Err(SendStop::NoMemory),
         },

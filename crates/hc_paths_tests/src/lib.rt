@@ -6,4 +6,6 @@ mod check;
 #[cfg(test)]
 mod paths;
 #[cfg(test)]
+mod shared;
+#[cfg(test)]
 mod walk;

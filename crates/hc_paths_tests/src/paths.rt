@@ -5,7 +5,7 @@ ghost use Rattle.hc_signal.specs.Lawful.{ArePorts};
 use hc_bits::Bits;
 use hc_fault::Name;
 use hc_paths::kinds::{PathStop, Paths};
-use hc_paths::make::{paths, schedule};
+use hc_paths::make::{local_order, paths, schedule};
 use hc_paths::{loops_and_masks_compose, loops_of_flat_nodes};
 use hc_signal::{Builder, Circuit, NodeId, Op2};
 use std::alloc::Global;
@@ -44,7 +44,7 @@ fn masks(
 ) -> Result<Option<Vec<u128>>, Fail> {
     assert!(rt; circuit.ports().inputs.as_slice().len() <= 128);
     match paths(alloc, circuit, kids) {
-        Ok(found) => Ok(Some(found.masks)),
+        Ok(found) => Ok(Some(found.masks.into_vec())),
         Err(PathStop::Loop) => Ok(None),
         Err(PathStop::NoMemory) => Err(PathStop::NoMemory.into()),
     }
@@ -92,11 +92,15 @@ fn word(alloc: Global, is_looped: bool) -> Result<Circuit, Fail> {
     Ok(builder.finish())
 }
 
-/// The schedule of a circuit without instances, or `None` where it has a loop.
+/// The schedule of a circuit without instances, or `None` where it has a loop. It is the order by no masks.
 fn order(rt: &impl Abort, alloc: Global, circuit: &Circuit) -> Result<Option<Vec<NodeId>>, Fail> {
     assert_eq!(rt; circuit.instances().len(), 0);
+    let local = local_order(alloc, circuit, &[]);
     match schedule(alloc, circuit) {
-        Ok(order) => Ok(Some(order)),
+        Ok(order) => {
+            assert!(rt; local.is_ok_and(|local| local.as_slice() == order.as_slice()));
+            Ok(Some(order))
+        }
         Err(PathStop::Loop) => Ok(None),
         Err(PathStop::NoMemory) => Err(PathStop::NoMemory.into()),
     }

@@ -28,6 +28,14 @@ pub mod Steps
 pub mod Tops
 pub mod Again
 pub mod Ends
+pub mod WholeTrees
+pub mod Answered
 pub mod HierSteps
 pub mod EndSteps
 pub mod Outs
+pub mod Called
+pub mod CheckedTrees
+pub mod LightTrees
+pub mod ClosedCalls
+pub mod EachCall
+pub mod ReachedCalls

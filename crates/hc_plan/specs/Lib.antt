@@ -7,3 +7,4 @@ pub mod Finishing
 pub mod Planning
 pub mod Stepping
 pub mod Concluded
+pub mod Light

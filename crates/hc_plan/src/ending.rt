@@ -92,8 +92,8 @@ fn stop_or_hier(
     }
 }
 
-/// What a design elaborates to, over what became of the rows of its plan: F33 at the first place of the first row that is not
-/// finished, else the plan's stop, else the hierarchy.
+/// What a design elaborates to, over what became of the rows of its plan: F33, on line 0, at the path of the first row whose
+/// tree has a loop; else the plan's stop; else the hierarchy.
 pub fn conclude(
     alloc: Global,
     design: &Design,

@@ -1,4 +1,7 @@
+use hc_bits::OpKind;
 use hc_cli::run_one;
+use hc_ops::functions::{greatest, leading_zeros, least, popcount, reverse, saturating_sum};
+use hc_ops::{CombOp, OpTable};
 use hc_outside::{MemSink, MemSource};
 use std::alloc::Global;
 use std::process::Abort;
@@ -16,8 +19,6 @@ const SHARED: &str =
 
 const TWO_WIDTHS: &str =
     "circuit add8\ninput a 8\ninput b 4\noutput s 8\nassign s add(a,b)\ntop add8\n";
-
-const OPERATION: &str = "circuit t\ninput x 8\noutput y 4\nassign y op.popcount(x)\ntop t\n";
 
 const MUX: &str =
     "circuit t\ninput s 2\ninput a 4\noutput y 4\nassign y mux(s,a,const(4,2),const(4,9))\ntop t\nbench\nset s 3\nset a 5\ncycle\nend\n";
@@ -42,6 +43,15 @@ const UNREACHED: &str =
 
 const TREE: &str =
     "circuit tree n\ninput a 16\noutput s 16\nif n==1\n  assign s a\nelse\n  inst p tree (n/2) : a=a\n  inst q tree (n-n/2) : a=a\n  assign s add(p.s,q.s)\nend\ntop tree 64\nbench\nset a 3\ncycle\nend\n";
+
+const FULL: &str =
+    "circuit leaf\noutput y 1\nassign y const(1,0)\ncircuit mid k\noutput y 1\nfor i 0 k\ninst u[i] leaf :\nend\nassign y u[0].y\ncircuit t\noutput y 1\nfor i 0 255\ninst u[i] mid 256 :\nend\nassign y u[0].y\ntop t\n";
+
+const OVERFULL: &str =
+    "circuit leaf\noutput y 1\nassign y const(1,0)\ncircuit mid k\noutput y 1\nfor i 0 k\ninst u[i] leaf :\nend\nassign y u[0].y\ncircuit t\noutput y 1\nfor i 0 255\ninst u[i] mid 256 :\nend\ninst x leaf :\nassign y u[0].y\ntop t\n";
+
+const FIRST_IN_ORDER: &str =
+    "circuit bad1\noutput y 8\nassign y const(4,1)\ncircuit mid\noutput y 8\ninst g bad1 :\nassign y g.y\ncircuit bad2\noutput y 8\nassign y const(8,300)\ncircuit t\noutput y 8\ninst u mid :\ninst v bad2 :\nassign y add(u.y,v.y)\ntop t\n";
 
 const REGISTER: &str =
     "circuit t\ninput d 8\ninput en 1\ninput clr 1\noutput q 8\nreg r d enable en clear clr 7\nassign q r\ntop t\nbench\nset d 3\nset en 1\ncycle\nset clr 1\ncycle\nend\n";
@@ -76,17 +86,27 @@ const TOO_DEEP: &str =
 const TOO_DEEP_LINE: &str =
     "F29 TooDeep line 4 path /u/u/u/u/u/u/u/u/u/u/u/u/u/u/u/u/u/u/u/u/u/u/u/u/u/u/u/u/u/u/u/u/u/u/u/u/u/u/u/u/u/u/u/u/u/u/u/u/u/u/u/u/u/u/u/u/u/u/u/u/u/u/u\n";
 
+const DEEP: &str =
+    "circuit d n\noutput y 1\nif n>1\ninst u d (n-1) :\nassign y u.y\nelse\nassign y const(1,1)\nend\ntop d 64\n";
+
+/// A chain of 63 calls that fits where it is met first, and not one level deeper.
+const DEEPER: &str =
+    "circuit d n\noutput y 1\nif n>1\ninst u d (n-1) :\nassign y u.y\nelse\nassign y const(1,1)\nend\ncircuit w\noutput y 1\ninst v d 63 :\nassign y v.y\ncircuit t\noutput y 1\ninst a d 63 :\ninst b w :\nassign y and(a.y,b.y)\ntop t\n";
+
+const DEEPER_LINE: &str =
+    "F29 TooDeep line 4 path /b/v/u/u/u/u/u/u/u/u/u/u/u/u/u/u/u/u/u/u/u/u/u/u/u/u/u/u/u/u/u/u/u/u/u/u/u/u/u/u/u/u/u/u/u/u/u/u/u/u/u/u/u/u/u/u/u/u/u/u/u/u/u\n";
+
 /// The status and the bytes of a run, how many turns and entries were handed out.
 #[derive(Drop)]
-struct Ran {
-    status: u8,
-    written: Vec<u8>,
+pub(crate) struct Ran {
+    pub(crate) status: u8,
+    pub(crate) written: Vec<u8>,
     turns: usize,
     entries: usize,
 }
 
 /// A run whose source fails at the call `failing`, and whose sink has this room. The words stand between spaces.
-fn run<R: Abort>(
+pub(crate) fn run<R: Abort>(
     rt: &R,
     alloc: Global,
     line: &str,
@@ -108,7 +128,15 @@ fn run<R: Abort>(
         Ok(sink) => sink,
         Err(_) => panic!(rt; "no sink"),
     };
-    let outcome = run_one(alloc, &words, &mut source, &mut sink);
+    let ops = OpTable::new(vec![in alloc;
+        CombOp::new(OpKind::Popcount, Box::new(alloc, popcount)?),
+        CombOp::new(OpKind::Clz, Box::new(alloc, leading_zeros)?),
+        CombOp::new(OpKind::Rev, Box::new(alloc, reverse)?),
+        CombOp::new(OpKind::Min, Box::new(alloc, least)?),
+        CombOp::new(OpKind::Max, Box::new(alloc, greatest)?),
+        CombOp::new(OpKind::SatAdd, Box::new(alloc, saturating_sum)?),
+    ]?);
+    let outcome = run_one(alloc, &words, &ops, &mut source, &mut sink);
     Ok(Ran {
         status: outcome.status,
         written: Vec::from_slice(alloc, sink.bytes())?,
@@ -127,7 +155,6 @@ fn texts_end_as_told(rt: HostRuntime) -> Result<(), Fail> {
             1,
             "F15 WidthMismatch line 5 path /\n",
         ),
-        ("verilog", OPERATION, 6, ""),
         ("vhdl", ADDER, 2, USAGE),
     ];
     for (word, text, status, written) in rows {
@@ -187,6 +214,27 @@ fn benches_end_as_told(rt: HostRuntime) -> Result<(), Fail> {
         ),
         ("sim", TOO_MANY, 1, "F36 TooManyCycles line 9 path -\n"),
         ("both", TOO_DEEP, 1, TOO_DEEP_LINE),
+        (
+            "stat",
+            DEEP,
+            0,
+            "instances 64\nentries 64\nmodules 64\nweight 446\nwords 0\ncycles 0\n",
+        ),
+        ("verilog", DEEPER, 1, DEEPER_LINE),
+        ("verilog --workers 64", DEEPER, 1, DEEPER_LINE),
+        (
+            "verilog --workers 64",
+            FIRST_IN_ORDER,
+            1,
+            "F15 WidthMismatch line 3 path /u/g\n",
+        ),
+        (
+            "stat",
+            FULL,
+            0,
+            "instances 65536\nentries 3\nmodules 3\nweight 524284\nwords 0\ncycles 0\n",
+        ),
+        ("stat", OVERFULL, 1, "F30 TooManyInstances line 15 path /\n"),
     ];
     for (words, text, status, written) in rows {
         let ran = run(&rt, rt.alloc(), words, text.as_bytes(), None, 2000)?;
@@ -224,8 +272,19 @@ fn ends_outside(rt: HostRuntime) -> Result<(), Fail> {
 
 #[test]
 fn histories_are_handed_out(rt: HostRuntime) -> Result<(), Fail> {
-    let shared = run(&rt, rt.alloc(), "verilog", SHARED.as_bytes(), None, 1000)?;
-    assert!(rt; shared.turns == 3 && shared.entries == 2);
+    // A turn for each distinct call, and an entry for each tree.
+    let rows = [
+        ("verilog", SHARED, 3, 2),
+        ("stat", TREE, 7, 7),
+        ("stat", FULL, 3, 3),
+    ];
+    for (words, text, turns, entries) in rows {
+        let ran = run(&rt, rt.alloc(), words, text.as_bytes(), None, 1000)?;
+        assert!(rt;
+            ran.status == 0 && ran.turns == turns && ran.entries == entries,
+            "{words}: {text}"
+        );
+    }
     let refused = run(&rt, rt.alloc(), "sim", NO_PORT.as_bytes(), None, 1000)?;
     assert!(rt; refused.turns == 1 && refused.entries == 1);
     let cut = run(&rt, rt.alloc(), "sim", COUNTER.as_bytes(), None, 20)?;

@@ -42,7 +42,7 @@ fn two_levels(rt: HostRuntime) -> Result<(), Fail> {
     assert!(rt; hier.name.bytes() == b"twice".as_slice());
     assert!(rt; hier.paths.masks.as_slice() == [1_u128].as_slice());
     assert_eq!(rt; entries.len(), 2);
-    assert_eq!(rt; turns.len(), 3);
+    assert_eq!(rt; turns.len(), 2);
     Ok(())
 }
 

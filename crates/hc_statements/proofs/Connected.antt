@@ -43,7 +43,7 @@ fit_set g (q ∷ ps) (o ∷ os) (suc k) id fit at within = (fit.0, fit_set g ps 
 pub fit_more : (g h : Graph) (ps : List Port) (os : List (Option NodeId)) (k : ℕ) (id : NodeId) → FitPorts g ps os → Grows g h → FitsAt h ps k id → k < length ps → FitPorts h ps (set os k (Some id))
 fit_more g h ps os k id fit grows at within = fit_set h ps os k id (fit_still g h ps os grows fit) at within
 
-width_row : (g : Graph) (id : NodeId) (w : ℕ) → id.0 < length g.nodes → width_at g id ≡ w → HasWidth g id w
+pub width_row : (g : Graph) (id : NodeId) (w : ℕ) → id.0 < length g.nodes → width_at g id ≡ w → HasWidth g id w
 width_row g id w node e = by (slice_get_cases g.nodes id.0)
   where
     by : (slice_get g.nodes id.0 ≡ slice_get g.nodes id.0) × (((x : NodeRow) × (id.0 < length g.nodes) × (slice_get g.nodes id.0 ≡ Some x) × (get_or g.nodes id.0 x ≡ x)) ⊎ ((length g.nodes ≤ id.0) × (slice_get g.nodes id.0 ≡ None))) → HasWidth g id w

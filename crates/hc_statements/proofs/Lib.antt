@@ -2,3 +2,9 @@ pub mod Known
 pub mod HeadSteps
 pub mod Connected
 pub mod Instanced
+pub mod FormedSteps
+pub mod FormedRegisters
+pub mod FormedStatements
+pub mod FormedHeads
+pub mod FormedConnections
+pub mod FormedLines

@@ -8,3 +8,4 @@ pub mod Instances
 pub mod Elaborated
 pub mod InstStops
 pub mod Gives
+pub mod Formed

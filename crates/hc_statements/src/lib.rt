@@ -3,6 +3,7 @@
 
 mod circuits;
 mod faults;
+pub mod form_laws;
 mod heads;
 mod instances;
 pub mod kinds;

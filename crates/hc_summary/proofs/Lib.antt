@@ -6,3 +6,4 @@ pub mod CalledEntries
 pub mod UsedTrees
 pub mod SixLines
 pub mod Summed
+pub mod Existing

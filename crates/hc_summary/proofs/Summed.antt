@@ -10,14 +10,14 @@ use Rattle.hc_dbstate.specs.Elaboration.{hier_view}
 use Rattle.hc_dbstate.specs.History.{History, IsLegal}
 use Rattle.hc_plan.specs.declared.sums.Sums.{Sums}
 use Rattle.hc_plan.specs.Elaborates.{Elaborated}
-use Rattle.hc_plan.specs.Hierarchies.{IsHierarchyFor, LogsWalk}
-use Rattle.hc_modules.specs.Uses.{AreUses}
+use Rattle.hc_plan.specs.Hierarchies.{AreCalled, IsHierarchyFor}
+use Rattle.hc_dbstate.specs.Uses.{AreUses}
 use Rattle.hc_summary.specs.Kinds.{IsNumberOfKinds}
 use Rattle.hc_summary.specs.Summary.{Counts, IsCallTree, IsReachedTree, IsSummary, summary_text}
-use Rattle.hc_summary.proofs.CalledEntries.{entries_number, nothing}
+use Rattle.hc_summary.proofs.CalledEntries.{HaveCalls, StandForCalls, entries_number}
 use Rattle.hc_summary.proofs.CycleRows.{run_rows}
 use Rattle.hc_summary.proofs.Marked.{marked}
-use Rattle.hc_summary.proofs.UsedTrees.{modules_number}
+use Rattle.hc_summary.proofs.UsedTrees.{TopIsThere, UsedAreCalled, modules_number}
 
 -- what the counts are taken from
 pub record AreTakenFrom (h : History) (hier : Hier) (marks : List Bool) (steps : List Step) (c : Counts) : Type 0 where
@@ -28,14 +28,14 @@ pub record AreTakenFrom (h : History) (hier : Hier) (marks : List Bool) (steps :
   pub words : c.words ≡ (hier_view hier).own.words
   pub cycles : c.cycles ≡ sum_by cycles_of steps
 
-pub summed : (h : History) (hier : Hier) (marks : List Bool) (steps : List Step) (c : Counts) (text : List ℕ) → IsLegal h → AreUses h.entries (hier_view hier).own.entry marks → AreTakenFrom h hier marks steps c → text ≡ summary_text c
-    → (of : Elaborated) (rows : List CycleRow) → IsHierarchyFor h.entries hier of → LogsWalk nothing h hier → IsRun of.tree steps rows → IsSummary of rows text
-summed h hier marks steps c text legal uses from is of rows for logs run = (
+pub summed : StandForCalls → HaveCalls → TopIsThere → UsedAreCalled → (h : History) (hier : Hier) (marks : List Bool) (steps : List Step) (c : Counts) (text : List ℕ) → IsLegal h → AreUses h.entries (hier_view hier).own.entry marks → AreTakenFrom h hier marks steps c → text ≡ summary_text c
+    → (of : Elaborated) (rows : List CycleRow) → IsHierarchyFor h.entries hier of → AreCalled h.entries hier → IsRun of.tree steps rows → IsSummary of rows text
+summed stand stood_for top_there used_called h hier marks steps c text legal uses from is of rows for called run = (
   c,
   record {
     instances = from.instances ∙ ap (λ (s : Sums). s.instances) for.sums;
-    entries = subst (IsNumberOfKinds (IsCallTree of.calls)) (sym from.entries) (entries_number h hier of legal for logs);
-    modules = subst (IsNumberOfKinds (IsReachedTree of.tree)) (sym from.modules) (modules_number h hier of legal for marks uses);
+    entries = subst (IsNumberOfKinds (IsCallTree of.calls)) (sym from.entries) (entries_number stand stood_for h hier of legal for called);
+    modules = subst (IsNumberOfKinds (IsReachedTree of.tree)) (sym from.modules) (modules_number top_there used_called h hier of legal for marks uses);
     weight = from.weight ∙ ap (λ (s : Sums). s.weight) for.sums;
     words = from.words ∙ ap (λ (s : Sums). s.words) for.sums;
     cycles = from.cycles ∙ sym (run_rows of.tree steps rows run);

@@ -1,18 +1,18 @@
 //! What a summary counts.
-ghost use Rattle.std.specs.Prelude.{◌≡◌, [], IfOk, List, count_by, sum_by};
+ghost use Rattle.std.specs.Prelude.{◌≡◌, IfOk, List, count_by, sum_by};
 ghost use Rattle.hc_bench.specs.Listing.{CycleRow};
 ghost use Rattle.hc_bench.specs.Steps as spec;
 ghost use Rattle.hc_bench.specs.Trace.{IsRun};
 ghost use Rattle.hc_dbstate.specs.Elaboration.{IsElaboration};
 ghost use Rattle.hc_plan.specs.Elaborates.{Elaborated};
-ghost use Rattle.hc_plan.specs.Hierarchies.{IsHierarchyFor, LogsWalk};
+ghost use Rattle.hc_plan.specs.Hierarchies.{AreCalled, IsHierarchyFor};
 ghost use Rattle.hc_summary.specs.Summary.{IsSummary};
 
 use crate::lines::text_of;
 use hc_bench::kinds::{Bench, Step};
-use hc_dbstate::{DbState, Hier};
+use hc_dbstate::{DbState, Hier, used_entries, used_entries_are_called};
 use hc_fault::NoMemory;
-use hc_modules::used_entries;
+use hc_plan::calls_stand_for_calls;
 use std::alloc::Global;
 
 /// How many marks are on.
@@ -50,14 +50,16 @@ fn cycles(steps: &[Step]) -> u128
 }
 
 /// The summary of a hierarchy and of the rows of a bench: six lines with the instances of the design, the entries of the
-/// database, the modules that the Verilog has, the weight, the words of memory, and the cycles of the bench. Where the
-/// database had no turns before the design was elaborated, and the rows are those of the bench from the start, it is the
-/// summary of the design.
+/// database, the modules that the Verilog has, the weight, the words of memory, and the cycles of the bench. Where each entry
+/// of the database is that of a call of the hierarchy, and the rows are those of the bench from the start, it is the summary
+/// of the design.
 pub fn summary(alloc: Global, db: &DbState, hier: &Hier, bench: &Bench) -> Result<Vec<u8>, NoMemory>
     requires elaboration { IsElaboration db.now.entries hier.now }
     ensures { IfOk result (λ text. (e : Elaborated) (rows : List CycleRow) → IsHierarchyFor db.now.entries hier.now e
-        → LogsWalk (record { entries = []; turns = [] }) db.now hier.now → IsRun e.tree bench.now.steps rows → IsSummary e rows text.items) }
+        → AreCalled db.now.entries hier.now → IsRun e.tree bench.now.steps rows → IsSummary e rows text.items) }
 {
+    calls_stand_for_calls();
+    used_entries_are_called();
     db.legal();
     let used = used_entries(alloc, db, hier.entry)?;
     let steps = bench.steps.as_slice();

@@ -3,8 +3,10 @@
 #![tactic(auto)]
 
 mod counts;
+mod exist_laws;
 mod laws;
 mod lines;
 
 pub use counts::summary;
+pub use exist_laws::summaries_exist;
 pub use laws::summaries_are_single;

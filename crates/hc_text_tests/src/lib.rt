@@ -10,4 +10,6 @@ mod lines;
 #[cfg(test)]
 mod num;
 #[cfg(test)]
+mod shared;
+#[cfg(test)]
 mod tokens;

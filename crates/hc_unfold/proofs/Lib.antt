@@ -5,3 +5,17 @@ pub mod Copies
 pub mod Known
 pub mod Standing
 pub mod Growing
+pub mod RowPlaces
+pub mod Extended
+pub mod Follows
+pub mod FormedNodes
+pub mod FormedPorts
+pub mod FormedRows
+pub mod FormedMemories
+pub mod FormedInstances
+pub mod FormLaws
+pub mod Keeping
+pub mod KeptPrimitives
+pub mod KeptDerived
+pub mod KeptCalls
+pub mod KeptSignals

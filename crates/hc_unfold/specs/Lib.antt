@@ -7,3 +7,4 @@ pub mod Places
 pub mod Outputs
 pub mod Nodes
 pub mod Gives
+pub mod Formed

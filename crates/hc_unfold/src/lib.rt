@@ -3,6 +3,7 @@
 
 mod calls;
 mod derived;
+pub mod form_laws;
 mod names;
 mod outputs;
 mod places;

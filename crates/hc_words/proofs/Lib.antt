@@ -3,3 +3,4 @@ pub mod Law
 pub mod Numbers
 pub mod Steps
 pub mod OneJob
+pub mod Decided

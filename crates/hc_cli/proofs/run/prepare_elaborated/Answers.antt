@@ -6,27 +6,26 @@ use Rattle.hc_bench.specs.Steps.{steps_of}
 use Rattle.hc_dbstate.specs.Elaboration.{hier_view}
 use Rattle.hc_dbstate.specs.Unfolding.{unfolding_of}
 use Rattle.hc_output.proofs.Runs.{same_ports}
+use Rattle.hc_cli.specs.Histories.{IsHistoryInOrder}
 use Rattle.hc_cli.proofs.DueLaws.{serves_refused, serves_whole}
-use Rattle.hc_cli.proofs.Kept.{history_is, history_of_kept}
+use Rattle.hc_cli.proofs.Kept.{history_of_kept, no_calls_in_order}
 use Rattle.hc_cli.proofs.run.prepare_elaborated.Goals as goal
 
 pub returns-in_ok-output-in-Ok : goal.returns-in_ok-output-in-Ok
-returns-in_ok-output-in-Ok c = λ e elaborates for logs plain.
+returns-in_ok-output-in-Ok c = λ e elaborates for called history.
     let entries = c.args.db.entries in
     let hier = c.args.hier.now in
     let design = c.args.design.now in
     let given = ap (λ (p : Ports). steps_of design p) (same_ports (unfolding_of entries (hier_view hier).own.entry) e.tree for.top) ∙ c.in-Ok.ensures.answer in
-    let history = history_is c.args.db hier e c.legal.ensures (λ i j a b. c.entries_unfold_once.ensures c.args.db i j c.legal.ensures a b) c.requires.elaboration for logs in
-    serves_whole c.args.job.now design e c.in-Ok.bench.steps c.in_ok-output-in-Ok.output c.kept_of.result plain elaborates for.whole given
-    (c.in_ok-output-in-Ok.ensures.out e for logs (c.elaborated_trees.ensures.free design e elaborates)) c.in_ok-output-in-Ok.ensures.ready (history_of_kept c.kept_of.result c.args.db e.calls c.kept_of.ensures history)
+    serves_whole IsHistoryInOrder no_calls_in_order c.args.job.now design e c.in-Ok.bench.steps c.in_ok-output-in-Ok.output c.kept_of.result elaborates for.whole given
+    (c.in_ok-output-in-Ok.ensures.out e for (λ stat. called) (c.elaborated_trees.ensures.free design e elaborates)) c.in_ok-output-in-Ok.ensures.ready (history_of_kept IsHistoryInOrder c.kept_of.result c.args.db e.calls c.kept_of.ensures history)
 
 pub returns-in-Err : goal.returns-in-Err
 returns-in-Err c = IfOk-weaker c.bench_told.result _ _ (
-    λ p told. λ e elaborates for logs plain.
+    λ p told. λ e elaborates for called history.
     let entries = c.args.db.entries in
     let hier = c.args.hier.now in
     let design = c.args.design.now in
     let refused = subst (λ (p : Ports). Refuses c.in-Err.refused (steps_of design p)) (sym (same_ports (unfolding_of entries (hier_view hier).own.entry) e.tree for.top)) c.in-Err.ensures.answer in
-    let history = history_is c.args.db hier e c.legal.ensures (λ i j a b. c.entries_unfold_once.ensures c.args.db i j c.legal.ensures a b) c.requires.elaboration for logs in
-    serves_refused c.args.job.now design e c.in-Err.refused c.kept_of-in-Err.result p plain elaborates refused told (history_of_kept c.kept_of-in-Err.result c.args.db e.calls c.kept_of-in-Err.ensures history)
+    serves_refused IsHistoryInOrder no_calls_in_order c.args.job.now design e c.in-Err.refused c.kept_of-in-Err.result p elaborates refused told (history_of_kept IsHistoryInOrder c.kept_of-in-Err.result c.args.db e.calls c.kept_of-in-Err.ensures history)
     ) c.bench_told.ensures

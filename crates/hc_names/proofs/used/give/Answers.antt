@@ -1,4 +1,4 @@
-use Rattle.std.proofs.Common.{List, ℕ, ap, subst, sym, ◌∙◌}
+use Rattle.std.proofs.Common.{ap, subst, sym, ◌∙◌}
 use Rattle.std.specs.Map.{keys_of}
 use Rattle.hc_names.specs.Numbers.{AreNumbered}
 use Rattle.hc_names.proofs.Table.{mangled_free, mangled_numbered, numbered_added, numbered_next, given_below, keys_added, keys_set}

@@ -1,5 +1,0 @@
-use Rattle.hc_flatsim.proofs.Cycles.{is_simulation}
-use Rattle.hc_flatsim.proofs.flat.FlatSimSim.lawful.Goals as goal
-
-pub returns : goal.returns
-returns c = is_simulation c.args.self.now c.machine.ensures

@@ -1,5 +1,0 @@
-use Rattle.hc_flatsim.proofs.Ports.{reset_is}
-use Rattle.hc_flatsim.proofs.flat.FlatSimSim.reset.Goals as goal
-
-pub returns : goal.returns
-returns c = reset_is c.args.self.now c.restart.new.self c.machine.ensures c.restart.ensures

@@ -1,0 +1,8 @@
+use Rattle.hc_words.proofs.Decided.{no_gen, words_decided}
+use Rattle.hc_words.proofs.word_laws.words_are_decided.Goals as goal
+
+pub returns-clause-job : goal.returns-clause-job
+returns-clause-job c = words_decided
+
+pub returns-clause-command : goal.returns-clause-command
+returns-clause-command c = no_gen

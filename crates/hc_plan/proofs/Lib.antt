@@ -22,6 +22,7 @@ pub mod WholePlan
 pub mod Adding
 pub mod Planned
 pub mod Keys
+pub mod KidHeights
 pub mod Bodies
 pub mod Steps
 pub mod Tops

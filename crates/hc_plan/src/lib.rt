@@ -7,6 +7,7 @@ mod called_laws;
 mod deep;
 mod depth_first;
 mod ending;
+mod height_laws;
 mod hierarchy;
 pub mod kinds;
 mod laws;
@@ -22,6 +23,7 @@ pub use call_laws::elaborated_calls_are_lawful;
 pub use called_laws::{calls_stand_for_calls, entries_are_called};
 pub use depth_first::plan;
 pub use ending::conclude;
+pub use height_laws::kids_are_lower;
 pub use hierarchy::hier_of;
 pub use laws::{
     calls_are_not_below_themselves, calls_met_again, deep_calls_stop, designs_elaborate_once,

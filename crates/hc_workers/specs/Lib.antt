@@ -1,0 +1,4 @@
+pub mod Finished
+pub mod Levels
+pub mod Owning
+pub mod Working

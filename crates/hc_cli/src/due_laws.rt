@@ -1,0 +1,26 @@
+ghost use Rattle.std.specs.Prelude.{ℕ, List};
+ghost use Rattle.hc_cli.specs.Due.{Due, IsDue};
+
+use hc_bench::steps_are_for_the_inputs;
+use hc_lang::texts_have_one_answer;
+use hc_output::{flat_texts_exist, verilog_texts_exist};
+use hc_plan::{designs_have_answers, elaborated_trees, elaborated_trees_are_whole};
+use hc_summary::summaries_exist;
+use hc_traces::benches_have_runs;
+use hc_words::words_are_decided;
+
+/// For each list of words and each text something is due: it is refuted that nothing is.
+pub fn something_is_due()
+    ensures { (words : List (List ℕ)) (text : List ℕ) → ((d : Due) → IsDue words text d → ⊥) → ⊥ }
+{
+    words_are_decided();
+    texts_have_one_answer();
+    designs_have_answers();
+    elaborated_trees();
+    elaborated_trees_are_whole();
+    steps_are_for_the_inputs();
+    benches_have_runs();
+    verilog_texts_exist();
+    flat_texts_exist();
+    summaries_exist();
+}

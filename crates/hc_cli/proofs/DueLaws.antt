@@ -83,10 +83,10 @@ module _ (Rule : HistoryRule) (no_calls : Rule no_history []) where
   serves_refused job d e (refusals.Fault f) k p elaborates fault same history = subst (ServesDesign Rule job d) (sym same) (serves_bench job d e f k elaborates fault history)
   serves_refused job d e refusals.NoMemory k p elaborates fault same history = absurd same
 
-  pub serves_whole : (job : Job) (d : Design) (e : Elaborated) (steps : List Step) (o : Output) (k : Kept) → DesignElaborates d (Ok e) → IsWhole e.tree → steps_of d (graph e.tree).ports ≡ Ok steps
+  pub serves_whole : (job : Job) (d : Design) (e : Elaborated) (steps : List Step) (o : Output) (k : Kept) → DesignElaborates d (Ok e) → steps_of d (graph e.tree).ports ≡ Ok steps
       → HasOutput job.verb job.flat d.top.name e steps o → IsReady o → Rule (history_in k) e.calls → ServesDesign Rule job d (is.Whole o k)
-  serves_whole job d e steps o k elaborates tree given (rows, out, run, output, text) ready history =
-      (done e.calls out, whole e steps rows out elaborates tree given run output, record { status = refl; out = text; history = history; ready = ready })
+  serves_whole job d e steps o k elaborates given (rows, out, run, output, text) ready history =
+      (done e.calls out, whole e steps rows out elaborates given run output, record { status = refl; out = text; history = history; ready = ready })
 
   pub serves_broken : (job : Job) (d : Design) (r : Refused) (result : Result Prepared NoMemory) → FaultIs (λ f. DesignElaborates d (Err f)) r → IfOk result (IsToldOf r) → IfOk result (ServesDesign Rule job d)
   serves_broken job d r result fault are = IfOk-weaker result _ _ (λ p told_of. by r p fault told_of) are
@@ -122,13 +122,15 @@ err_is x y e = cc
 module _ (one_job : (words : List (List ℕ)) (a b : Job) → IsJob words a → IsJob words b → a ≡ b) (one_design : AtMostOne) (one_fault : OneFault) (not_two : NotBoth)
     (elaborates_once : (d : Design) (r s : Result Elaborated Fault) → DesignElaborates d r → DesignElaborates d s → r ≡ s)
     (free : (d : Design) (e : Elaborated) → DesignElaborates d (Ok e) → ¬ HasCombLoop e.tree)
+    (whole_tree : (d : Design) (e : Elaborated) → DesignElaborates d (Ok e) → IsWhole e.tree)
     (one_run : (t : Tree) → IsWhole t → ¬ HasCombLoop t → (steps : List Step) (rows others : List CycleRow) → IsRun t steps rows → IsRun t steps others → rows ≡ others)
     (one_output : (verb : Verb) (flat : Bool) (title : List ℕ) (e : Elaborated) (rows : List CycleRow) (a b : List ℕ) → IsWhole e.tree → IsOutput verb flat title e rows a → IsOutput verb flat title e rows b → a ≡ b) where
   -- one output of one elaborated design
-  outputs_once : (job : Job) (d : Design) (e : Elaborated) (steps others : List Step) (rows more : List CycleRow) (a b : List ℕ) → DesignElaborates d (Ok e) → IsWhole e.tree
+  outputs_once : (job : Job) (d : Design) (e : Elaborated) (steps others : List Step) (rows more : List CycleRow) (a b : List ℕ) → DesignElaborates d (Ok e)
       → steps_of d (graph e.tree).ports ≡ Ok steps → steps_of d (graph e.tree).ports ≡ Ok others → IsRun e.tree steps rows → IsRun e.tree others more
       → IsOutput job.verb job.flat d.top.name e rows a → IsOutput job.verb job.flat d.top.name e more b → a ≡ b
-  outputs_once job d e steps others rows more a b x w s t run ran o p =
+  outputs_once job d e steps others rows more a b x s t run ran o p =
+      let w : IsWhole e.tree = whole_tree d e x in
       let same : steps ≡ others = ok_is steps others (sym s ∙ t) in
       let rows_same : rows ≡ more = one_run e.tree w (free d e x) others rows more (subst (λ (l : List Step). IsRun e.tree l rows) same run) ran in
       one_output job.verb job.flat d.top.name e more a b w (subst (λ (l : List CycleRow). IsOutput job.verb job.flat d.top.name e l a) rows_same o) p
@@ -147,26 +149,26 @@ module _ (one_job : (words : List (List ℕ)) (a b : Job) → IsJob words a → 
       let here : steps_of d (graph g.tree).ports ≡ Err f = subst (λ (k : Elaborated). steps_of d (graph k.tree).ports ≡ Err f) (same_design d e g x y) a in
       ok_err steps f (sym b ∙ here)
 
-  whole_once : (job : Job) (d : Design) (e g : Elaborated) (steps others : List Step) (rows more : List CycleRow) (a b : List ℕ) → DesignElaborates d (Ok e) → DesignElaborates d (Ok g) → IsWhole g.tree
+  whole_once : (job : Job) (d : Design) (e g : Elaborated) (steps others : List Step) (rows more : List CycleRow) (a b : List ℕ) → DesignElaborates d (Ok e) → DesignElaborates d (Ok g)
       → steps_of d (graph e.tree).ports ≡ Ok steps → steps_of d (graph g.tree).ports ≡ Ok others → IsRun e.tree steps rows → IsRun g.tree others more
       → IsOutput job.verb job.flat d.top.name e rows a → IsOutput job.verb job.flat d.top.name g more b → done e.calls a ≡ done g.calls b
-  whole_once job d e g steps others rows more a b x y w s t run ran o p =
+  whole_once job d e g steps others rows more a b x y s t run ran o p =
       let same : e ≡ g = same_design d e g x y in
       let given : steps_of d (graph g.tree).ports ≡ Ok steps = subst (λ (k : Elaborated). steps_of d (graph k.tree).ports ≡ Ok steps) same s in
       let rows_here : IsRun g.tree steps rows = subst (λ (k : Elaborated). IsRun k.tree steps rows) same run in
       let out_here : IsOutput job.verb job.flat d.top.name g rows a = subst (λ (k : Elaborated). IsOutput job.verb job.flat d.top.name k rows a) same o in
-      ap₂ (λ (k : Elaborated) (l : List ℕ). done k.calls l) same (outputs_once job d g steps others rows more a b y w given t rows_here ran out_here p)
+      ap₂ (λ (k : Elaborated) (l : List ℕ). done k.calls l) same (outputs_once job d g steps others rows more a b y given t rows_here ran out_here p)
 
   design_once : (job : Job) (d : Design) (x y : Due) → IsDesignDue job d x → IsDesignDue job d y → x ≡ y
   design_once job d x y (broken f k) (broken g m) = ap (λ (h : Fault). told h []) (err_is f g (elaborates_once d (Err f) (Err g) k m))
   design_once job d x y (broken f k) (bench_broken e g m n) = absurd (ok_err e f (elaborates_once d (Ok e) (Err f) m k))
-  design_once job d x y (broken f k) (whole e s r o m w n u v) = absurd (ok_err e f (elaborates_once d (Ok e) (Err f) m k))
+  design_once job d x y (broken f k) (whole e s r o m n u v) = absurd (ok_err e f (elaborates_once d (Ok e) (Err f) m k))
   design_once job d x y (bench_broken e f k l) (broken g m) = absurd (ok_err e g (elaborates_once d (Ok e) (Err g) k m))
   design_once job d x y (bench_broken e f k l) (bench_broken g h m n) = told_once d e g f h k m l n
-  design_once job d x y (bench_broken e f k l) (whole g s r o m w n u v) = absurd (not_mixed d e g f s k m l n)
-  design_once job d x y (whole e s r o k w l u v) (broken f m) = absurd (ok_err e f (elaborates_once d (Ok e) (Err f) k m))
-  design_once job d x y (whole e s r o k w l u v) (bench_broken g f m n) = absurd (not_mixed d g e f s m k n l)
-  design_once job d x y (whole e s r o k w l u v) (whole g t q p m z n i j) = whole_once job d e g s t r q o p k m z l n u i v j
+  design_once job d x y (bench_broken e f k l) (whole g s r o m n u v) = absurd (not_mixed d e g f s k m l n)
+  design_once job d x y (whole e s r o k l u v) (broken f m) = absurd (ok_err e f (elaborates_once d (Ok e) (Err f) k m))
+  design_once job d x y (whole e s r o k l u v) (bench_broken g f m n) = absurd (not_mixed d g e f s m k n l)
+  design_once job d x y (whole e s r o k l u v) (whole g t q p m n i j) = whole_once job d e g s t r q o p k m l n u i v j
 
   text_once : (job : Job) (text : List ℕ) (x y : Due) → IsTextDue job text x → IsTextDue job text y → x ≡ y
   text_once job text x y (too_long a) (too_long b) = refl

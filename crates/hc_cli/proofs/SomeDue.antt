@@ -57,7 +57,7 @@ module _ (decided : (words : List (List ℕ)) → HasNoJob words ⊎ ((job : Job
   some_whole job d e steps known x given missing =
       let w : IsWhole e.tree = whole_tree d e x in
       let run : (rows : List CycleRow) × IsRun e.tree steps rows = runs e.tree w (free d e x) steps (for_inputs d (graph e.tree).ports steps (whole_ports e.tree w) given) in
-      some_output d e job.verb job.flat d.top.name run.0 x known (λ out. missing (done e.calls out.0) (whole e steps run.0 out.0 x w given run.1 out.1))
+      some_output d e job.verb job.flat d.top.name run.0 x known (λ out. missing (done e.calls out.0) (whole e steps run.0 out.0 x given run.1 out.1))
 
   some_bench : (job : Job) (d : Design) (e : Elaborated) (answer : Result (List Step) Fault) → (job.verb ≡ verb.Gen → ⊥) → DesignElaborates d (Ok e) → steps_of d (graph e.tree).ports ≡ answer → ((due : Due) → IsDesignDue job d due → ⊥) → ⊥
   some_bench job d e (Ok steps) known x given missing = some_whole job d e steps known x given missing

@@ -7,7 +7,7 @@ use Rattle.hc_words.specs.declared.job.Job.{Job}
 use Rattle.hc_words.specs.Jobs.{IsJob, HasNoJob}
 use Rattle.hc_lang.specs.declared.tree.Design.{Design}
 use Rattle.hc_lang.specs.Reads.{FirstFault, ParsesTo}
-use Rattle.hc_signal.specs.Tree.{IsWhole, graph}
+use Rattle.hc_signal.specs.Tree.{graph}
 use Rattle.hc_plan.specs.Elaborates.{Elaborated, ElaboratedCall, DesignElaborates}
 use Rattle.hc_bench.specs.declared.kinds.Step.{Step}
 use Rattle.hc_bench.specs.Listing.{CycleRow}
@@ -53,7 +53,7 @@ text_fault kind line = record { kind = kind; line = line; path = None }
 pub data IsDesignDue (job : Job) (d : Design) : Due → Type 0 where
   broken : (f : Fault) → DesignElaborates d (Err f) → IsDesignDue job d (told f [])
   bench_broken : (e : Elaborated) (f : Fault) → DesignElaborates d (Ok e) → steps_of d (graph e.tree).ports ≡ Err f → IsDesignDue job d (told f e.calls)
-  whole : (e : Elaborated) (steps : List Step) (rows : List CycleRow) (out : List ℕ) → DesignElaborates d (Ok e) → IsWhole e.tree → steps_of d (graph e.tree).ports ≡ Ok steps
+  whole : (e : Elaborated) (steps : List Step) (rows : List CycleRow) (out : List ℕ) → DesignElaborates d (Ok e) → steps_of d (graph e.tree).ports ≡ Ok steps
       → IsRun e.tree steps rows → IsOutput job.verb job.flat d.top.name e rows out → IsDesignDue job d (done e.calls out)
 
 -- What is due for a job and a text.

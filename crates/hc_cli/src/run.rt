@@ -31,7 +31,7 @@ use hc_lang::{Design, parse, texts_have_one_answer};
 use hc_ops::OpTable;
 use hc_output::{SendStop, outputs_are_single, prepare_output};
 use hc_outside::{ReadStop, Sink, Source, read_all};
-use hc_plan::{designs_elaborate_once, elaborated_trees};
+use hc_plan::{designs_elaborate_once, elaborated_trees, elaborated_trees_are_whole};
 use hc_traces::runs_are_single;
 use hc_words::{Job, WordStop, one_job, read_words};
 use std::alloc::Global;
@@ -292,6 +292,7 @@ pub fn one_due()
     texts_have_one_answer();
     designs_elaborate_once();
     elaborated_trees();
+    elaborated_trees_are_whole();
     runs_are_single();
     outputs_are_single();
 }

@@ -17,7 +17,7 @@ returns-in_ok-output-in-Ok c = λ e elaborates for called history.
     let hier = c.args.hier.now in
     let design = c.args.design.now in
     let given = ap (λ (p : Ports). steps_of design p) (same_ports (unfolding_of entries (hier_view hier).own.entry) e.tree for.top) ∙ c.in-Ok.ensures.answer in
-    serves_whole IsHistoryInOrder no_calls_in_order c.args.job.now design e c.in-Ok.bench.steps c.in_ok-output-in-Ok.output c.kept_of.result elaborates for.whole given
+    serves_whole IsHistoryInOrder no_calls_in_order c.args.job.now design e c.in-Ok.bench.steps c.in_ok-output-in-Ok.output c.kept_of.result elaborates given
     (c.in_ok-output-in-Ok.ensures.out e for (λ stat. called) (c.elaborated_trees.ensures.free design e elaborates)) c.in_ok-output-in-Ok.ensures.ready (history_of_kept IsHistoryInOrder c.kept_of.result c.args.db e.calls c.kept_of.ensures history)
 
 pub returns-in-Err : goal.returns-in-Err

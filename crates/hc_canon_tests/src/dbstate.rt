@@ -1,5 +1,7 @@
+ghost use Rattle.std.specs.Prelude.{◌≤◌};
+
 use crate::circuits::{and_first, or_first};
-use hc_canon::{EntryId, canon};
+use hc_canon::{EntryId, Form, canon, same};
 use hc_check::check;
 use hc_dbstate::{DbState, Turn};
 use hc_fault::Name;
@@ -73,4 +75,39 @@ fn equal_circuits_share_an_entry(rt: HostRuntime) -> Result<(), Fail> {
     assert!(rt; turns.as_slice() == expected.as_slice());
     assert_eq!(rt; (b, c), (EntryId(0), EntryId(1)));
     Ok(())
+}
+
+/// The entries and turns that these forms leave.
+fn left_by_all(
+    rt: &impl Abort,
+    alloc: Global,
+    mut state: DbState,
+) -> Result<(Vec<Form>, Vec<Turn>), Fail> {
+    insert_all(rt, alloc, &mut state)?;
+    Ok(state.into_parts())
+}
+
+fn assert_same_entries(rt: &impl Abort, entries: &[Form], others: &[Form]) {
+    assert_eq!(rt; entries.len(), others.len());
+    for (entry, other) in entries.iter().zip(others) {
+        assert!(rt; same(entry, other));
+    }
+}
+
+/// An index by so many bits leaves the entries and turns that `new` leaves.
+fn assert_left_alike(rt: &impl Abort, alloc: Global, bits: u32) -> Result<(), Fail>
+    requires { bits ≤ 64 }
+{
+    let (entries, turns) = left_by_all(rt, alloc, DbState::new(alloc))?;
+    let (others, other_turns) = left_by_all(rt, alloc, DbState::with_bits(alloc, bits))?;
+    assert_same_entries(rt, entries.as_slice(), others.as_slice());
+    assert!(rt; turns.as_slice() == other_turns.as_slice());
+    Ok(())
+}
+
+#[test]
+fn the_index_changes_nothing(rt: HostRuntime) -> Result<(), Fail> {
+    assert_left_alike(&rt, rt.alloc(), 0)?;
+    assert_left_alike(&rt, rt.alloc(), 1)?;
+    assert_left_alike(&rt, rt.alloc(), 63)
 }

@@ -1,4 +1,4 @@
-ghost use Rattle.std.specs.Prelude.{◌≡◌, ◌<◌, [], Some, length, slice_get};
+ghost use Rattle.std.specs.Prelude.{◌≡◌, ◌<◌, ◌≤◌, [], Some, length, slice_get};
 ghost use Rattle.hc_dbstate.specs.History.{IsLegal};
 
 use crate::turns::Turn;
@@ -7,15 +7,18 @@ use indexmap::IndexMap;
 use std::alloc::Global;
 use std::marker::Model;
 
-/// The entries, pairwise different, and a turn for each insertion. The history is always legal.
+/// The entries, pairwise different, and a turn for each insertion. The history is always legal. Equal entries are looked for
+/// among those that have as many low bits of their hash in common.
 #[derive(Drop)]
 pub struct DbState {
     pub(crate) entries: Vec<Form>,
     pub(crate) turns: Vec<Turn>,
+    pub(crate) bits: u32,
     pub(crate) places: IndexMap<u64, Vec<usize>>,
 }
 
 impl Model for DbState {
+    ghost use Rattle.std.specs.Prelude.{◌≤◌};
     ghost use Rattle.hc_dbstate.specs.History.{History, IsLegal};
     ghost use Rattle.hc_dbstate.specs.Places.{IsIndexOf};
 
@@ -23,17 +26,27 @@ impl Model for DbState {
 
     ghost view = { λ state. record { entries = state.entries.items; turns = state.turns.items } };
 
-    ghost invariant = { λ state. IsLegal (record { entries = state.entries.items; turns = state.turns.items }) × IsIndexOf state.places state.entries.items };
+    ghost invariant = { λ state. IsLegal (record { entries = state.entries.items; turns = state.turns.items }) × IsIndexOf state.bits state.places state.entries.items × (state.bits ≤ 64) };
 }
 
 impl DbState {
-    /// No entries and no turns.
+    /// No entries and no turns. No memory is taken.
     pub fn new(alloc: Global) -> DbState
+        ensures { result ≡ record { entries = []; turns = [] } }
+    {
+        DbState::with_bits(alloc, 64)
+    }
+
+    /// No entries and no turns, with an index by so many low bits of a form's hash. The number of bits changes how fast equal
+    /// entries are found, and nothing else. No memory is taken.
+    pub fn with_bits(alloc: Global, bits: u32) -> DbState
+        requires { bits ≤ 64 }
         ensures { result ≡ record { entries = []; turns = [] } }
     {
         DbState {
             entries: Vec::new(alloc),
             turns: Vec::new(alloc),
+            bits,
             places: IndexMap::new(alloc),
         }
     }
@@ -75,6 +88,7 @@ impl DbState {
         let DbState {
             entries,
             turns,
+            bits: _,
             places: _,
         } = self;
         (entries, turns)

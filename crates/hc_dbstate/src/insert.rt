@@ -1,8 +1,8 @@
-ghost use Rattle.std.specs.Prelude.{◌≡◌, ◌≢◌, ◌<◌, ◌++◌, ◌∷◌, [], All, IfErr, IfOk, IsTrue, ◌↔◌, MatchOption, OnErr, OnOk, Some, if◌then◌else◌, length, nat_eq, slice_get, ℕ};
+ghost use Rattle.std.specs.Prelude.{◌≡◌, ◌≢◌, ◌<◌, ◌≤◌, ◌++◌, ◌∷◌, [], All, IfErr, IfOk, IsTrue, ◌↔◌, MatchOption, OnErr, OnOk, Some, if◌then◌else◌, length, nat_eq, slice_get, ℕ};
 ghost use Rattle.hc_canon.specs.Hashing.{hash_of};
 ghost use Rattle.hc_canon.specs.declared.form.EntryId.{EntryId};
 ghost use Rattle.hc_dbstate.specs.Insertion.{IsInserted};
-ghost use Rattle.hc_dbstate.specs.Places.{IsIndexOf, places_at};
+ghost use Rattle.hc_dbstate.specs.Places.{IsIndexOf, low_bits, places_at};
 ghost use Rattle.hc_signal.specs.Member.{Has};
 
 use crate::database::DbState;
@@ -34,34 +34,44 @@ fn find(entries: &[Form], places: &[usize], form: &Form) -> Option<usize>
     None
 }
 
+/// So many low bits of a hash.
+fn low_bits(bits: u32, hash: u64) -> u64
+    requires { bits ≤ 64 }
+    ensures { result ≡ low_bits bits hash }
+{
+    if bits < 64 { hash % (1 << bits) } else { hash }
+}
+
 /// The place of the entry that is equal to the form.
 fn place_of(
     entries: &[Form],
+    bits: u32,
     places: &IndexMap<u64, Vec<usize>>,
     hash: u64,
     form: &Form,
 ) -> Option<usize>
-    requires index { IsIndexOf places.now entries.now }
+    requires bits { bits ≤ 64 }
+    requires index { IsIndexOf bits places.now entries.now }
     requires hash { hash ≡ hash_of form.now }
     ensures { MatchOption result ((k : ℕ) → slice_get entries.now k ≢ Some form.now) (λ k. slice_get entries.now k ≡ Some form.now) }
 {
-    match places.get(&hash) {
+    match places.get(&low_bits(bits, hash)) {
         Some(listed) => find(entries, listed.as_slice(), form),
         None => None,
     }
 }
 
-/// Lists one more place for this hash. After a refusal nothing has changed.
+/// Lists one more place for this key. After a refusal nothing has changed.
 fn note(
     alloc: Global,
     places: &mut IndexMap<u64, Vec<usize>>,
-    hash: u64,
+    key: u64,
     place: usize,
 ) -> Result<(), NoMemory>
-    ensures ok { OnOk result ((k : ℕ) → places_at places.new k ≡ (if nat_eq hash k then places_at places.old k ++ place ∷ [] else places_at places.old k)) }
+    ensures ok { OnOk result ((k : ℕ) → places_at places.new k ≡ (if nat_eq key k then places_at places.old k ++ place ∷ [] else places_at places.old k)) }
     ensures err { OnErr result ((k : ℕ) → places_at places.new k ≡ places_at places.old k) }
 {
-    match places.get_mut(&hash) {
+    match places.get_mut(&key) {
         Some(listed) => match listed.push(place) {
             Ok(()) => Ok(()),
             Err(_) => Err(NoMemory),
@@ -71,7 +81,7 @@ fn note(
             if listed.push(place).is_err() {
                 return Err(NoMemory);
             }
-            match places.insert(hash, listed) {
+            match places.insert(key, listed) {
                 Ok(_) => Ok(()),
                 Err(_) => Err(NoMemory),
             }
@@ -92,8 +102,9 @@ impl DbState {
         if self.turns.reserve(1).is_err() || self.entries.reserve(1).is_err() {
             return Err((form, NoMemory));
         }
-        let key = hash(&form);
-        match place_of(self.entries.as_slice(), &self.places, key, &form) {
+        let bits = self.bits;
+        let hash = hash(&form);
+        match place_of(self.entries.as_slice(), bits, &self.places, hash, &form) {
             Some(k) => {
                 self.turns.push_reserved(Turn {
                     entry: EntryId(k),
@@ -104,7 +115,7 @@ impl DbState {
             None => {
                 let place = self.entries.len();
                 let alloc = *self.entries.allocator();
-                match note(alloc, &mut self.places, key, place) {
+                match note(alloc, &mut self.places, low_bits(bits, hash), place) {
                     Ok(()) => {}
                     Err(e) => return Err((form, e)),
                 }

@@ -5,7 +5,7 @@ use Rattle.hc_canon.specs.declared.form.EntryId.{EntryId}
 use Rattle.hc_canon.specs.FormView.{FormView}
 use Rattle.hc_dbstate.specs.History.{History, turn}
 use Rattle.hc_dbstate.specs.Insertion.{IsInserted}
-use Rattle.hc_dbstate.specs.Places.{places_from}
+use Rattle.hc_dbstate.specs.Places.{low_bits, places_from}
 use Rattle.hc_dbstate.proofs.Indexed.{places_after}
 use Rattle.hc_dbstate.proofs.Grows.{again_inserted, fresh_inserted}
 use Rattle.hc_dbstate.proofs.database.DbState.insert.Goals as goal
@@ -15,7 +15,7 @@ invariant_of-self-in-Some-1 c =
     let old : History = record { entries = c.self.inside.entries.items; turns = c.self.inside.turns.items } in
     let ts : c.push_reserved.new.self.items ≡ old.turns ++ turn (record { 0 = c.in-Some.k }) false ∷ [] = search rules in
     let here : slice_get c.reserve-else-is_err.new.self.items c.in-Some.k ≡ Some c.args.form = search rules in
-    ((again_inserted old _ _ c.args.form (record { 0 = c.in-Some.k }) c.self.invariant.0 c.reserve-else-is_err.ensures.items ts here).0, λ h. c.self.invariant.1 h ∙ ap (places_from 0 h) (sym c.reserve-else-is_err.ensures.items))
+    ((again_inserted old _ _ c.args.form (record { 0 = c.in-Some.k }) c.self.invariant.0 c.reserve-else-is_err.ensures.items ts here).0, (λ h. c.self.invariant.1 h ∙ ap (places_from c.self.inside.bits 0 h) (sym c.reserve-else-is_err.ensures.items)), c.self.invariant.2)
 
 pub returns-in-Some-clause-ok : goal.returns-in-Some-clause-ok
 returns-in-Some-clause-ok c =
@@ -34,7 +34,7 @@ invariant_of-self-in-None c =
     let items : c.as_slice.result.now ≡ old.entries = search rules in
     let kids : (k : EntryId) → Has c.args.form.kids k → k.0 < length old.entries = subst (λ (h : History). (k : EntryId) → Has c.args.form.kids k → k.0 < length h.entries) (sym c.self.view_is) c.requires.kids in
     let new : (j : ℕ) → slice_get old.entries j ≢ Some c.args.form = subst (λ (l : List FormView). (j : ℕ) → slice_get l j ≢ Some c.args.form) items c.in-None.ensures in
-    ((fresh_inserted old _ _ c.args.form (record { 0 = c.len-place.result }) c.self.invariant.0 es ts at c.canonical.ensures kids new).0, λ h. places_after h old.entries _ c.args.form c.hash-key.result c.len-place.result _ _ es c.hash-key.ensures at (c.self.invariant.1 h) (c.in-Ok.ensures.ok h))
+    ((fresh_inserted old _ _ c.args.form (record { 0 = c.len-place.result }) c.self.invariant.0 es ts at c.canonical.ensures kids new).0, (λ h. places_after c.self.inside.bits h old.entries _ c.args.form c.low_bits.result c.len-place.result _ _ es (c.low_bits.ensures ∙ ap (low_bits c.self.inside.bits) c.hash-hash.ensures) at (c.self.invariant.1 h) (c.in-Ok.ensures.ok h)), c.self.invariant.2)
 
 pub returns-in-Ok-clause-ok : goal.returns-in-Ok-clause-ok
 returns-in-Ok-clause-ok c =

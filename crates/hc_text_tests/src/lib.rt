@@ -13,3 +13,5 @@ mod num;
 mod shared;
 #[cfg(test)]
 mod tokens;
+#[cfg(test)]
+mod workload;

@@ -18,8 +18,8 @@ use Rattle.clap.specs.declared.parser.matches.ValueSource.TheVariants.{DefaultVa
 use Rattle.clap.proofs.OnLiterals.{clap_on_literals}
 use Rattle.clap.proofs.WalkLemmas.{both, find-map, list_any-map}
 use Rattle.clap.proofs.TakesLemmas.{leaf_takes}
-use Rattle.hc_words.specs.Items.{Item, Text, are_lawful, clashes, is_about, command, command_names, id_of, is_between, is_command, is_lawful, item_at, flat, joined, split, spelled, spelled_all, text_at, value_of, workers}
-use Rattle.hc_words.proofs.Steps.{flat_step, Settles, Steps, app, at, at_fresh, command_step, filled_command, joined_step, row, rules_in, shape_in, simple, split_step}
+use Rattle.hc_words.specs.Items.{Item, Text, are_lawful, clashes, is_about, command, command_names, id_of, is_between, is_command, is_lawful, item_at, flat, joined, split, spelled, spelled_all, text_at, value_of, NumberOption, workers, seed, option_name, least, greatest}
+use Rattle.hc_words.proofs.Steps.{flat_step, Settles, Steps, app, at, at_fresh, command_step, filled_command, filled_option, joined_step, row, rules_in, shape_in, simple, split_step}
 
 abbrev Names : Type 0
 Names = Bor (List (Bor Text))
@@ -97,20 +97,27 @@ stays_at : (rows : List Row) (r : Row) → bytes_eq r.id (codes "command") ≡ f
 stays_at rows r e =
     ap (λ b. cond b 2 1) (sym (has_row-append (codes "command") rows r ∙ ap (λ b. has_row (codes "command") rows || (b || false)) e ∙ or-false _))
 
+no_command : (o : NumberOption) → bytes_eq (option_name o) (codes "command") ≡ false
+no_command workers = refl
+no_command seed = refl
+
+-- a number in its range is taken
+number_passes : (o : NumberOption) (d : ℕ) (ds : Text) → is_between (least o) (greatest o) (d ∷ ds) ≡ true → value_passes (filled_option o) (d ∷ ds) ≡ true
+number_passes workers d ds e = bounded 1 64 (d ∷ ds) (no_plus d ds (first_digit d ds 1 64 e)) (omega arith) e
+number_passes seed d ds e = bounded 0 18446744073709551615 (d ∷ ds) (no_plus d ds (first_digit d ds 0 18446744073709551615 e)) (omega arith) e
+
 step : (names : Names) → map (λ s. s.now) names.now ≡ command_names → (x : Item) (h : Held) (rows : List Row) → Settles names h rows → has_row (id_of x) rows ≡ false
     → is_lawful x ≡ true → Steps names h (position_in rows) (position_in (rows ++ row x ∷ [])) (spelled x) (rows ++ row x ∷ [])
-step names verb (joined workers []) h rows s fresh lawful = absurd (true≢false (sym lawful))
-step names verb (joined workers (d ∷ ds)) h rows s fresh lawful =
-    let digit = first_digit d ds 1 64 lawful in
-    subst (λ q. Steps names h (position_in rows) q (spelled (joined workers (d ∷ ds))) (rows ++ row (joined workers (d ∷ ds)) ∷ []))
-    (stays_at rows (row (joined workers (d ∷ ds))) refl)
-    (joined_step names h (position_in rows) (d ∷ ds) rows s fresh (bounded 1 64 (d ∷ ds) (no_plus d ds digit) (omega arith) lawful))
-step names verb (split workers []) h rows s fresh lawful = absurd (true≢false (sym lawful))
-step names verb (split workers (d ∷ ds)) h rows s fresh lawful =
-    let digit = first_digit d ds 1 64 lawful in
-    subst (λ q. Steps names h (position_in rows) q (spelled (split workers (d ∷ ds))) (rows ++ row (split workers (d ∷ ds)) ∷ []))
-    (stays_at rows (row (split workers (d ∷ ds))) refl)
-    (split_step names h (position_in rows) d ds rows s fresh (bounded 1 64 (d ∷ ds) (no_plus d ds digit) (omega arith) lawful) digit)
+step names verb (joined o []) h rows s fresh lawful = absurd (true≢false (sym lawful))
+step names verb (joined o (d ∷ ds)) h rows s fresh lawful =
+    subst (λ q. Steps names h (position_in rows) q (spelled (joined o (d ∷ ds))) (rows ++ row (joined o (d ∷ ds)) ∷ []))
+    (stays_at rows (row (joined o (d ∷ ds))) (no_command o))
+    (joined_step names h (position_in rows) o (d ∷ ds) rows s fresh (number_passes o d ds lawful))
+step names verb (split o []) h rows s fresh lawful = absurd (true≢false (sym lawful))
+step names verb (split o (d ∷ ds)) h rows s fresh lawful =
+    subst (λ q. Steps names h (position_in rows) q (spelled (split o (d ∷ ds))) (rows ++ row (split o (d ∷ ds)) ∷ []))
+    (stays_at rows (row (split o (d ∷ ds))) (no_command o))
+    (split_step names h (position_in rows) o d ds rows s fresh (number_passes o d ds lawful) (first_digit d ds (least o) (greatest o) lawful))
 step names verb flat h rows s fresh lawful =
     subst (λ q. Steps names h (position_in rows) q (spelled flat) (rows ++ row flat ∷ [])) (stays_at rows (row flat) refl)
     (flat_step names h (position_in rows) rows s fresh)
@@ -190,6 +197,9 @@ default_of_id id value = record {
 abbrev workers_default : Row
 workers_default = default_of_id (codes "workers") (codes "1")
 
+abbrev seed_default : Row
+seed_default = default_of_id (codes "seed") (codes "0")
+
 abbrev flat_default : Row
 flat_default = default_of_id (codes "flat") (codes "false")
 
@@ -203,7 +213,7 @@ with_row d rows = if has_row d.id rows then rows else rows ++ d ∷ []
 
 -- the rows with all defaults
 abbrev completed : List Row → List Row
-completed rows = with_row flat_default (with_row workers_default rows)
+completed rows = with_row flat_default (with_row seed_default (with_row workers_default rows))
 
 gets_default : (id value : Text) (b : Bool) (rows : List Row) → has_row id rows ≡ b
     → cond b rows (with_values id reading.AsWritten DefaultValue (value ∷ []) rows) ≡ cond b rows (rows ++ default_of_id id value ∷ [])
@@ -214,12 +224,14 @@ defaults : (names : Names) (rows : List Row) → fold with_default rows (rules_i
 unfolding clap_on_literals
 defaults names rows =
     let first = with_row workers_default rows in
-    let second = with_row flat_default first in
+    let second = with_row seed_default first in
+    let third = with_row flat_default second in
     let rest : List Row → List Rule → List Row = λ r rules. fold with_default r rules in
     ap (λ r. rest r (drop 1 (rules_in names))) (same_branches (has_row (codes "command") rows) rows)
     ∙ ap (λ r. rest r (drop 2 (rules_in names))) (gets_default (codes "workers") (codes "1") (has_row (codes "workers") rows) rows refl)
-    ∙ ap (λ r. rest r (drop 3 (rules_in names))) (gets_default (codes "flat") (codes "false") (has_row (codes "flat") first) first refl)
-    ∙ same_branches (has_row (codes "help") second) second
+    ∙ ap (λ r. rest r (drop 3 (rules_in names))) (gets_default (codes "seed") (codes "0") (has_row (codes "seed") first) first refl)
+    ∙ ap (λ r. rest r (drop 4 (rules_in names))) (gets_default (codes "flat") (codes "false") (has_row (codes "flat") second) second refl)
+    ∙ same_branches (has_row (codes "help") third) third
 
 -- ---- reading the rows
 
@@ -275,7 +287,8 @@ items_row id xs = sym (find-map (λ (r : Row). bytes_eq r.id id) row xs)
 
 command_row : (xs : List Item) → row_at (codes "command") (completed (map row xs)) ≡ option_map row (item_at (codes "command") xs)
 command_row xs =
-    other_row (codes "command") flat_default (with_row workers_default (map row xs)) refl
+    other_row (codes "command") flat_default (with_row seed_default (with_row workers_default (map row xs))) refl
+    ∙ other_row (codes "command") seed_default (with_row workers_default (map row xs)) refl
     ∙ other_row (codes "command") workers_default (map row xs) refl ∙ items_row (codes "command") xs
 
 -- the text that a getter reads of an item's row, or of the default
@@ -287,16 +300,27 @@ workers_row : (xs : List Item)
     → one_of (codes "workers") (completed (map row xs)) ≡ Some (unwrap_or (text_at (codes "workers") xs) (codes "1"))
 workers_row xs =
     ap (option_and_then row_text)
-    (other_row (codes "workers") flat_default (with_row workers_default (map row xs)) refl
+    (other_row (codes "workers") flat_default (with_row seed_default (with_row workers_default (map row xs))) refl
+    ∙ other_row (codes "workers") seed_default (with_row workers_default (map row xs)) refl
     ∙ own_row workers_default (map row xs) refl ∙ ap (λ o. Some (unwrap_or o workers_default)) (items_row (codes "workers") xs))
     ∙ text_or (item_at (codes "workers") xs) (codes "workers") (codes "1")
+
+seed_row : (xs : List Item)
+    → one_of (codes "seed") (completed (map row xs)) ≡ Some (unwrap_or (text_at (codes "seed") xs) (codes "0"))
+seed_row xs =
+    ap (option_and_then row_text)
+    (other_row (codes "seed") flat_default (with_row seed_default (with_row workers_default (map row xs))) refl
+    ∙ own_row seed_default (with_row workers_default (map row xs)) refl
+    ∙ ap (λ o. Some (unwrap_or o seed_default)) (other_row (codes "seed") workers_default (map row xs) refl ∙ items_row (codes "seed") xs))
+    ∙ text_or (item_at (codes "seed") xs) (codes "seed") (codes "0")
 
 flat_row : (xs : List Item)
     → one_of (codes "flat") (completed (map row xs)) ≡ Some (unwrap_or (text_at (codes "flat") xs) (codes "false"))
 flat_row xs =
     ap (option_and_then row_text)
-    (own_row flat_default (with_row workers_default (map row xs)) refl
-    ∙ ap (λ o. Some (unwrap_or o flat_default)) (other_row (codes "flat") workers_default (map row xs) refl ∙ items_row (codes "flat") xs))
+    (own_row flat_default (with_row seed_default (with_row workers_default (map row xs))) refl
+    ∙ ap (λ o. Some (unwrap_or o flat_default))
+    (other_row (codes "flat") seed_default (with_row workers_default (map row xs)) refl ∙ other_row (codes "flat") workers_default (map row xs) refl ∙ items_row (codes "flat") xs))
     ∙ text_or (item_at (codes "flat") xs) (codes "flat") (codes "false")
 
 -- ---- the law
@@ -305,6 +329,7 @@ pub record Parses (names : Names) (xs : List Item) : Type 0 where
   pub taken : takes (app names) (spelled_all xs) ≡ true
   pub verb : first_of (codes "command") (matches_of (app names) (spelled_all xs)) ≡ text_at (codes "command") xs
   pub workers : one_of (codes "workers") (matches_of (app names) (spelled_all xs)) ≡ Some (unwrap_or (text_at (codes "workers") xs) (codes "1"))
+  pub seed : one_of (codes "seed") (matches_of (app names) (spelled_all xs)) ≡ Some (unwrap_or (text_at (codes "seed") xs) (codes "0"))
   pub flat : one_of (codes "flat") (matches_of (app names) (spelled_all xs)) ≡ Some (unwrap_or (text_at (codes "flat") xs) (codes "false"))
 
 given_command : (o : Option Item) → is_some o ≡ true → option_map_or (λ (r : Row). explicit_source r.source) (option_map row o) false ≡ true
@@ -320,6 +345,8 @@ has_item [] e = absurd (true≢false (sym e))
 has_item (command v ∷ xs) e = refl
 has_item (joined workers n ∷ xs) e = has_item xs e
 has_item (split workers n ∷ xs) e = has_item xs e
+has_item (joined seed n ∷ xs) e = has_item xs e
+has_item (split seed n ∷ xs) e = has_item xs e
 has_item (flat ∷ xs) e = has_item xs e
 
 pub verb_lawful : (xs : List Item) → are_lawful xs ≡ true → is_about (codes "command") xs ≡ true → (v : Text) × (text_at (codes "command") xs ≡ Some v) × (is_command v ≡ true)
@@ -327,14 +354,27 @@ verb_lawful [] e has = absurd (true≢false (sym has))
 verb_lawful (command v ∷ xs) e has = (v, refl, (both _ _ e).0)
 verb_lawful (joined workers n ∷ xs) e has = verb_lawful xs (both _ _ (both _ _ e).1).1 has
 verb_lawful (split workers n ∷ xs) e has = verb_lawful xs (both _ _ (both _ _ e).1).1 has
+verb_lawful (joined seed n ∷ xs) e has = verb_lawful xs (both _ _ (both _ _ e).1).1 has
+verb_lawful (split seed n ∷ xs) e has = verb_lawful xs (both _ _ (both _ _ e).1).1 has
 verb_lawful (flat ∷ xs) e has = verb_lawful xs (both _ _ (both true _ e).1).1 has
 
 pub workers_lawful : (xs : List Item) → are_lawful xs ≡ true → is_between 1 64 (unwrap_or (text_at (codes "workers") xs) (codes "1")) ≡ true
 workers_lawful [] e = refl
 workers_lawful (joined workers n ∷ xs) e = (both _ _ e).0
 workers_lawful (split workers n ∷ xs) e = (both _ _ e).0
+workers_lawful (joined seed n ∷ xs) e = workers_lawful xs (both _ _ (both _ _ e).1).1
+workers_lawful (split seed n ∷ xs) e = workers_lawful xs (both _ _ (both _ _ e).1).1
 workers_lawful (command v ∷ xs) e = workers_lawful xs (both _ _ (both _ _ e).1).1
 workers_lawful (flat ∷ xs) e = workers_lawful xs (both _ _ (both true _ e).1).1
+
+pub seed_lawful : (xs : List Item) → are_lawful xs ≡ true → is_between 0 18446744073709551615 (unwrap_or (text_at (codes "seed") xs) (codes "0")) ≡ true
+seed_lawful [] e = refl
+seed_lawful (joined seed n ∷ xs) e = (both _ _ e).0
+seed_lawful (split seed n ∷ xs) e = (both _ _ e).0
+seed_lawful (joined workers n ∷ xs) e = seed_lawful xs (both _ _ (both _ _ e).1).1
+seed_lawful (split workers n ∷ xs) e = seed_lawful xs (both _ _ (both _ _ e).1).1
+seed_lawful (command v ∷ xs) e = seed_lawful xs (both _ _ (both _ _ e).1).1
+seed_lawful (flat ∷ xs) e = seed_lawful xs (both _ _ (both true _ e).1).1
 
 -- the flag reads as whether it is there
 pub flat_text : (xs : List Item) → unwrap_or (text_at (codes "flat") xs) (codes "false") ≡ cond (is_about (codes "flat") xs) (codes "true") (codes "false")
@@ -343,6 +383,8 @@ flat_text (flat ∷ xs) = refl
 flat_text (command v ∷ xs) = flat_text xs
 flat_text (joined workers n ∷ xs) = flat_text xs
 flat_text (split workers n ∷ xs) = flat_text xs
+flat_text (joined seed n ∷ xs) = flat_text xs
+flat_text (split seed n ∷ xs) = flat_text xs
 
 all_fresh : (xs : List Item) → are_fresh [] xs ≡ true
 all_fresh [] = refl
@@ -389,5 +431,6 @@ law names verb xs lawful has =
       taken = takes_is names words (level_is names words all.end (completed (map row xs)) ends all.walk_ok all.settles.passes rows given);
       verb = ap (first_of (codes "command")) matches ∙ ap (option_and_then (λ (r : Row). slice_get r.values 0)) (command_row xs) ∙ first_row (item_at (codes "command") xs);
       workers = ap (one_of (codes "workers")) matches ∙ workers_row xs;
+      seed = ap (one_of (codes "seed")) matches ∙ seed_row xs;
       flat = ap (one_of (codes "flat")) matches ∙ flat_row xs;
     }

@@ -15,16 +15,20 @@ use Rattle.clap.specs.declared.builder.value_parser.ValueParser.TheVariants as v
 use Rattle.clap.specs.declared.builder.action.ArgAction.TheVariants.{Set}
 use Rattle.clap.proofs.OnLiterals.{clap_on_literals}
 use Rattle.hc_words.specs.Rules.{command_rule, flat_rule, option_rule}
-use Rattle.hc_words.specs.Items.{Item, Text, command, flat, joined, split, workers, id_of, spelled, value_of}
+use Rattle.hc_words.specs.Items.{Item, Text, command, NumberOption, flat, joined, split, workers, seed, option_name, id_of, spelled, value_of}
 
 abbrev pub workers_rule : Rule
 workers_rule = option_rule (codes "workers") (vp.Unsigned 1 64) (codes "1")
 
+abbrev pub seed_rule : Rule
+seed_rule = option_rule (codes "seed") (vp.Unsigned 0 18446744073709551615) (codes "0")
+
 abbrev pub app : Bor (List (Bor Text)) → App
 app names = with_rule
     (with_rule
+    (with_rule
     (with_rule (on_top (λ s. record s { no_binary_name = true }) (new_app (codes "hardcaml"))) (command_rule names))
-    workers_rule) flat_rule
+    workers_rule) seed_rule) flat_rule
 
 abbrev pub rules_in : Bor (List (Bor Text)) → List Rule
 rules_in names = (built (app names)).top.rules
@@ -34,6 +38,16 @@ filled_workers = record workers_rule {
   action = Some Set;
   range = Some (record { start_inclusive = 1; end_inclusive = 1 });
 }
+
+abbrev pub filled_seed : Rule
+filled_seed = record seed_rule {
+  action = Some Set;
+  range = Some (record { start_inclusive = 1; end_inclusive = 1 });
+}
+
+abbrev pub filled_option : NumberOption → Rule
+filled_option workers = filled_workers
+filled_option seed = filled_seed
 
 abbrev pub filled_flat : Rule
 filled_flat = record flat_rule {
@@ -102,20 +116,23 @@ pub record Steps (names : Bor (List (Bor Text))) (h : Held) (p q : ℕ) (words :
   pub walks : (rest : List Text) → fold (walked (rules_in names) []) (at h p) (words ++ rest) ≡ fold (walked (rules_in names) []) (at end q) rest
   pub walk_ok : (rest : List Text) → walk_passes (shape_in names) [] (at end q) rest ≡ true → walk_passes (shape_in names) [] (at h p) (words ++ rest) ≡ true
 
-use_ok : (n : Text) (rows : List Row) → has_row (codes "workers") rows ≡ false → value_passes filled_workers n ≡ true
-    → use_passes false filled_workers (n ∷ []) rows ≡ true
-use_ok n rows fresh passes = rw (fresh, passes) refl
+use_ok : (o : NumberOption) (n : Text) (rows : List Row) → has_row (option_name o) rows ≡ false → value_passes (filled_option o) n ≡ true
+    → use_passes false (filled_option o) (n ∷ []) rows ≡ true
+use_ok workers n rows fresh passes = rw (fresh, passes) refl
+use_ok seed n rows fresh passes = rw (fresh, passes) refl
 
-joined_walk : (names : Bor (List (Bor Text))) (h : Held) (p : ℕ) (n : Text)
-    → walked (rules_in names) [] (at h p) (codes "--workers=" ++ n) ≡ at (reacted (rules_in names) filled_workers (n ∷ []) h) p
+joined_walk : (names : Bor (List (Bor Text))) (h : Held) (p : ℕ) (o : NumberOption) (n : Text)
+    → walked (rules_in names) [] (at h p) (codes "--" ++ (option_name o ++ (codes "=" ++ n))) ≡ at (reacted (rules_in names) (filled_option o) (n ∷ []) h) p
 unfolding clap_on_literals
-joined_walk names h p n = refl
+joined_walk names h p workers n = refl
+joined_walk names h p seed n = refl
 
-joined_turn : (names : Bor (List (Bor Text))) (h : Held) (p : ℕ) (n : Text)
-    → turn_passes (shape_in names) [] (at h p) (codes "--workers=" ++ n)
-    ≡ ((settle_passes (rules_in names) false h && use_passes false filled_workers (n ∷ []) (settled_rows (rules_in names) h.pending h.rows)) && true)
+joined_turn : (names : Bor (List (Bor Text))) (h : Held) (p : ℕ) (o : NumberOption) (n : Text)
+    → turn_passes (shape_in names) [] (at h p) (codes "--" ++ (option_name o ++ (codes "=" ++ n)))
+    ≡ ((settle_passes (rules_in names) false h && use_passes false (filled_option o) (n ∷ []) (settled_rows (rules_in names) h.pending h.rows)) && true)
 unfolding clap_on_literals
-joined_turn names h p n = refl
+joined_turn names h p workers n = refl
+joined_turn names h p seed n = refl
 
 walk_cons : (names : Bor (List (Bor Text))) (w v : Walk) (word : Text) (rest : List Text) → walked (rules_in names) [] w word ≡ v
     → turn_passes (shape_in names) [] w word ≡ true → walk_passes (shape_in names) [] v rest ≡ true
@@ -123,19 +140,29 @@ walk_cons : (names : Bor (List (Bor Text))) (w v : Walk) (word : Text) (rest : L
 unfolding walk_passes
 walk_cons names w v word rest is turn e = rw (turn, is) e
 
-pub joined_step : (names : Bor (List (Bor Text))) (h : Held) (p : ℕ) (n : Text) (rows : List Row) → Settles names h rows
-    → has_row (codes "workers") rows ≡ false → value_passes filled_workers n ≡ true
-    → Steps names h p p (spelled (joined workers n)) (rows ++ row (joined workers n) ∷ [])
-joined_step names h p n rows s fresh passes = record {
-  end = reacted (rules_in names) filled_workers (n ∷ []) h;
-  settles = record {
-    rows_are = ap (used filled_workers (n ∷ [])) s.rows_are ∙ with_fresh (codes "workers") n rows fresh;
-    passes = refl;
-  };
-  walks = λ rest. ap (λ w. fold (walked (rules_in names) []) w rest) (joined_walk names h p n);
+-- what the use of an option with its number leaves
+used_rows : (o : NumberOption) (n : Text) (rows : List Row) → has_row (option_name o) rows ≡ false
+    → used (filled_option o) (n ∷ []) rows ≡ rows ++ row (joined o n) ∷ []
+used_rows workers n rows fresh = with_fresh (codes "workers") n rows fresh
+used_rows seed n rows fresh = with_fresh (codes "seed") n rows fresh
+
+-- once an option has its number, nothing is left to settle
+reacted_rows : (names : Bor (List (Bor Text))) (o : NumberOption) (n : Text) (h : Held) (rows : List Row)
+    → used (filled_option o) (n ∷ []) (settled_rows (rules_in names) h.pending h.rows) ≡ rows → Settles names (reacted (rules_in names) (filled_option o) (n ∷ []) h) rows
+unfolding clap_on_literals
+reacted_rows names workers n h rows e = record { rows_are = e; passes = refl }
+reacted_rows names seed n h rows e = record { rows_are = e; passes = refl }
+
+pub joined_step : (names : Bor (List (Bor Text))) (h : Held) (p : ℕ) (o : NumberOption) (n : Text) (rows : List Row) → Settles names h rows
+    → has_row (option_name o) rows ≡ false → value_passes (filled_option o) n ≡ true
+    → Steps names h p p (spelled (joined o n)) (rows ++ row (joined o n) ∷ [])
+joined_step names h p o n rows s fresh passes = record {
+  end = reacted (rules_in names) (filled_option o) (n ∷ []) h;
+  settles = reacted_rows names o n h (rows ++ row (joined o n) ∷ []) (ap (used (filled_option o) (n ∷ [])) s.rows_are ∙ used_rows o n rows fresh);
+  walks = λ rest. ap (λ w. fold (walked (rules_in names) []) w rest) (joined_walk names h p o n);
   walk_ok = λ rest e.
-      walk_cons names _ _ _ rest (joined_walk names h p n)
-      (joined_turn names h p n ∙ (rw (s.passes, s.rows_are, use_ok n rows fresh passes) refl)) e;
+      walk_cons names _ _ _ rest (joined_walk names h p o n)
+      (joined_turn names h p o n ∙ (rw (s.passes, s.rows_are, use_ok o n rows fresh passes) refl)) e;
 }
 
 -- ---- the number as a word of its own
@@ -143,25 +170,28 @@ joined_step names h p n rows s fresh passes = record {
 no_digit : (d c : ℕ) → digit_value d < 10 → c < 48 → (d == c) ≡ false
 no_digit d c digit below = ne_eqb d c (λ same. let range = digit_from_value d digit in omega (arith, range.0, same))
 
-abbrev waits : Bor (List (Bor Text)) → Held → ℕ → Walk
-waits names h p = record {
-  held = record (settled (rules_in names) h) { pending = Some (codes "workers", []) };
-  waiting = option (codes "workers");
+abbrev waits : Bor (List (Bor Text)) → Held → ℕ → NumberOption → Walk
+waits names h p o = record {
+  held = record (settled (rules_in names) h) { pending = Some (option_name o, []) };
+  waiting = option (option_name o);
   position = p;
   is_trailing = false;
   stopped = None;
 }
 
-abbrev pending_with : Bor (List (Bor Text)) → Held → Text → Held
-pending_with names h n = record (settled (rules_in names) h) { pending = Some (codes "workers", n ∷ []) }
+abbrev pending_with : Bor (List (Bor Text)) → Held → NumberOption → Text → Held
+pending_with names h o n = record (settled (rules_in names) h) { pending = Some (option_name o, n ∷ []) }
 
-name_walk : (names : Bor (List (Bor Text))) (h : Held) (p : ℕ) → walked (rules_in names) [] (at h p) (codes "--workers") ≡ waits names h p
+name_walk : (names : Bor (List (Bor Text))) (h : Held) (p : ℕ) (o : NumberOption) → walked (rules_in names) [] (at h p) (codes "--" ++ option_name o) ≡ waits names h p o
 unfolding clap_on_literals
-name_walk names h p = refl
+name_walk names h p workers = refl
+name_walk names h p seed = refl
 
-name_turn : (names : Bor (List (Bor Text))) (h : Held) (p : ℕ) → turn_passes (shape_in names) [] (at h p) (codes "--workers") ≡ (settle_passes (rules_in names) false h && true)
+name_turn : (names : Bor (List (Bor Text))) (h : Held) (p : ℕ) (o : NumberOption)
+    → turn_passes (shape_in names) [] (at h p) (codes "--" ++ option_name o) ≡ (settle_passes (rules_in names) false h && true)
 unfolding clap_on_literals
-name_turn names h p = refl
+name_turn names h p workers = refl
+name_turn names h p seed = refl
 
 -- a word whose first byte is no hyphen is no flag
 not_long : (d : ℕ) (ds : Text) → (d == 45) ≡ false → long_of (d ∷ ds) ≡ None
@@ -188,38 +218,52 @@ plain_passes s d ds h other =
     ∙ ap (λ o. flag_word_passes s.rules s.args_override_self o word h) (not_long d ds other)
     ∙ ap (λ o. option_map_or (λ flags. bundle_passes s.rules s.args_override_self flags h) o true) (not_short d ds other)
 
-number_walk : (names : Bor (List (Bor Text))) (h : Held) (p d : ℕ) (ds : Text) → (d == 45) ≡ false
-    → walked (rules_in names) [] (waits names h p) (d ∷ ds) ≡ at (pending_with names h (d ∷ ds)) p
+number_walk : (names : Bor (List (Bor Text))) (h : Held) (p : ℕ) (o : NumberOption) (d : ℕ) (ds : Text) → (d == 45) ≡ false
+    → walked (rules_in names) [] (waits names h p o) (d ∷ ds) ≡ at (pending_with names h o (d ∷ ds)) p
 unfolding clap_on_literals
-number_walk names h p d ds other =
-    let w = waits names h p in
+number_walk names h p workers d ds other =
+    let w = waits names h p workers in
+    ap (λ (m : Held × Step). after_step (rules_in names) (d ∷ ds) w m.0 m.1) (plain_met (rules_in names) w.waiting p d ds w.held other)
+number_walk names h p seed d ds other =
+    let w = waits names h p seed in
     ap (λ (m : Held × Step). after_step (rules_in names) (d ∷ ds) w m.0 m.1) (plain_met (rules_in names) w.waiting p d ds w.held other)
 
-number_turn : (names : Bor (List (Bor Text))) (h : Held) (p d : ℕ) (ds : Text) → (d == 45) ≡ false
-    → turn_passes (shape_in names) [] (waits names h p) (d ∷ ds) ≡ true
+number_turn : (names : Bor (List (Bor Text))) (h : Held) (p : ℕ) (o : NumberOption) (d : ℕ) (ds : Text) → (d == 45) ≡ false
+    → turn_passes (shape_in names) [] (waits names h p o) (d ∷ ds) ≡ true
 unfolding clap_on_literals
-number_turn names h p d ds other =
-    let w = waits names h p in
+number_turn names h p workers d ds other =
+    let w = waits names h p workers in
+    ap₂ (λ (b : Bool) (m : Held × Step). b && step_passes (shape_in names) p m.0 m.1)
+    (plain_passes (shape_in names) d ds w.held other) (plain_met (rules_in names) w.waiting p d ds w.held other)
+number_turn names h p seed d ds other =
+    let w = waits names h p seed in
     ap₂ (λ (b : Bool) (m : Held × Step). b && step_passes (shape_in names) p m.0 m.1)
     (plain_passes (shape_in names) d ds w.held other) (plain_met (rules_in names) w.waiting p d ds w.held other)
 
-pub split_step : (names : Bor (List (Bor Text))) (h : Held) (p : ℕ) (d : ℕ) (ds : Text) (rows : List Row) → Settles names h rows
-    → has_row (codes "workers") rows ≡ false → value_passes filled_workers (d ∷ ds) ≡ true → digit_value d < 10
-    → Steps names h p p (spelled (split workers (d ∷ ds))) (rows ++ row (split workers (d ∷ ds)) ∷ [])
-split_step names h p d ds rows s fresh passes digit =
+-- a number that waits to be taken
+pending_rows : (names : Bor (List (Bor Text))) (o : NumberOption) (n : Text) (h : Held) (rows : List Row)
+    → used (filled_option o) (n ∷ []) (settled_rows (rules_in names) h.pending h.rows) ≡ rows
+    → use_passes false (filled_option o) (n ∷ []) (settled_rows (rules_in names) h.pending h.rows) ≡ true → Settles names (pending_with names h o n) rows
+unfolding clap_on_literals
+pending_rows names workers n h rows e passes = record { rows_are = e; passes = passes }
+pending_rows names seed n h rows e passes = record { rows_are = e; passes = passes }
+
+pub split_step : (names : Bor (List (Bor Text))) (h : Held) (p : ℕ) (o : NumberOption) (d : ℕ) (ds : Text) (rows : List Row) → Settles names h rows
+    → has_row (option_name o) rows ≡ false → value_passes (filled_option o) (d ∷ ds) ≡ true → digit_value d < 10
+    → Steps names h p p (spelled (split o (d ∷ ds))) (rows ++ row (split o (d ∷ ds)) ∷ [])
+split_step names h p o d ds rows s fresh passes digit =
     let other = no_digit d 45 digit (omega arith) in
     record {
-      end = pending_with names h (d ∷ ds);
-      settles = record {
-        rows_are = ap (used filled_workers ((d ∷ ds) ∷ [])) s.rows_are ∙ with_fresh (codes "workers") (d ∷ ds) rows fresh;
-        passes = ap (use_passes false filled_workers ((d ∷ ds) ∷ [])) s.rows_are ∙ use_ok (d ∷ ds) rows fresh passes;
-      };
+      end = pending_with names h o (d ∷ ds);
+      settles = pending_rows names o (d ∷ ds) h (rows ++ row (split o (d ∷ ds)) ∷ [])
+          (ap (used (filled_option o) ((d ∷ ds) ∷ [])) s.rows_are ∙ used_rows o (d ∷ ds) rows fresh)
+          (ap (use_passes false (filled_option o) ((d ∷ ds) ∷ [])) s.rows_are ∙ use_ok o (d ∷ ds) rows fresh passes);
       walks = λ rest.
-          ap (λ w. fold (walked (rules_in names) []) w ((d ∷ ds) ∷ rest)) (name_walk names h p)
-          ∙ ap (λ w. fold (walked (rules_in names) []) w rest) (number_walk names h p d ds other);
+          ap (λ w. fold (walked (rules_in names) []) w ((d ∷ ds) ∷ rest)) (name_walk names h p o)
+          ∙ ap (λ w. fold (walked (rules_in names) []) w rest) (number_walk names h p o d ds other);
       walk_ok = λ rest e.
-          walk_cons names _ _ _ _ (name_walk names h p) (name_turn names h p ∙ (rw s.passes refl))
-          (walk_cons names _ _ _ rest (number_walk names h p d ds other) (number_turn names h p d ds other) e);
+          walk_cons names _ _ _ _ (name_walk names h p o) (name_turn names h p o ∙ (rw s.passes refl))
+          (walk_cons names _ _ _ rest (number_walk names h p o d ds other) (number_turn names h p o d ds other) e);
     }
 
 -- ---- the command

@@ -13,7 +13,7 @@ joined_number prefix word =
     if bytes_eq (take (length prefix) word) prefix then Some (drop (length prefix) word) else None
 
 abbrev pub nothing_seen : Seen
-nothing_seen = record { command = false; workers = false; flat = false; awaits = awaits.Nothing }
+nothing_seen = record { command = false; workers = false; seed = false; flat = false; awaits = awaits.Nothing }
 
 abbrev pub awaited : ℕ → ℕ → Seen → Text → Option Seen
 awaited low high seen word =
@@ -23,22 +23,30 @@ abbrev pub command_word : Seen → Text → Option Seen
 command_word seen word =
     if seen.command || not (is_command word) then None else Some (record seen { command = true })
 
+abbrev pub joined_seed : Seen → Text → Option Text → Option Seen
+joined_seed seen word (Some number) =
+    if seen.seed || not (is_between 0 18446744073709551615 number) then None else Some (record seen { seed = true })
+joined_seed seen word None = command_word seen word
+
 abbrev pub joined_word : Seen → Text → Option Text → Option Seen
 joined_word seen word (Some number) =
     if seen.workers || not (is_between 1 64 number) then None else Some (record seen { workers = true })
-joined_word seen word None = command_word seen word
+joined_word seen word None = joined_seed seen word (joined_number (codes "--seed=") word)
 
 abbrev pub item_word : Seen → Text → Option Seen
 item_word seen word =
     if bytes_eq word (codes "--workers")
     then (if seen.workers then None else Some (record seen { workers = true; awaits = awaits.Workers }))
+    else (if bytes_eq word (codes "--seed")
+    then (if seen.seed then None else Some (record seen { seed = true; awaits = awaits.Seed }))
     else (if bytes_eq word (codes "--flat")
     then (if seen.flat then None else Some (record seen { flat = true }))
-    else joined_word seen word (joined_number (codes "--workers=") word))
+    else joined_word seen word (joined_number (codes "--workers=") word)))
 
 abbrev pub stepped_at : Awaits → Seen → Text → Option Seen
 stepped_at awaits.Nothing seen word = item_word seen word
 stepped_at awaits.Workers seen word = awaited 1 64 seen word
+stepped_at awaits.Seed seen word = awaited 0 18446744073709551615 seen word
 
 abbrev pub stepped : Seen → Text → Option Seen
 stepped seen word = stepped_at seen.awaits seen word

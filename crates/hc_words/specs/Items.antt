@@ -34,19 +34,24 @@ is_command v = list_any (λ name. bytes_eq name v) command_names
 
 pub data NumberOption : Type 0 where
   workers : NumberOption
+  seed : NumberOption
 
 abbrev pub option_name : NumberOption → Text
 option_name workers = codes "workers"
+option_name seed = codes "seed"
 
 abbrev pub least : NumberOption → ℕ
 least workers = 1
+least seed = 0
 
 abbrev pub greatest : NumberOption → ℕ
 greatest workers = 64
+greatest seed = 18446744073709551615
 
 -- the number where the option is absent
 abbrev pub default_number : NumberOption → Text
 default_number workers = codes "1"
+default_number seed = codes "0"
 
 -- ---- items
 

@@ -1,7 +1,7 @@
 -- The job that a list of words asks for.
 use Rattle.std.specs.Prelude.{◌≡◌, ℕ, List, codes, Some, unwrap_or}
 use Rattle.std.specs.Str.Parse.{digits_value}
-use Rattle.hc_words.specs.Items.{IsSpelledBy, Item, NumberOption, Text, default_number, is_about, name_of, option_name, text_at, workers}
+use Rattle.hc_words.specs.Items.{IsSpelledBy, Item, NumberOption, Text, default_number, is_about, name_of, option_name, seed, text_at, workers}
 use Rattle.hc_words.specs.declared.job.Job.{Job}
 
 -- the number of an option, or its default
@@ -15,7 +15,7 @@ pub record IsJob (words : List Text) (j : Job) : Type 0 where
   pub verb : text_at (codes "command") items ≡ Some (name_of j.verb)
   pub workers : j.workers ≡ number_of workers items
   pub flat : j.flat ≡ is_about (codes "flat") items
-  pub seed : j.seed ≡ 0
+  pub seed : j.seed ≡ number_of seed items
 
 abbrev pub HasNoJob : List Text → Type 0
 HasNoJob words = (xs : List Item) → IsSpelledBy words xs → ⊥

@@ -1,6 +1,6 @@
 //! The test of the form, word by word.
 ghost use Rattle.std.specs.Prelude.{◌≡◌, map, string_bytes, option_map, codes};
-ghost use Rattle.hc_words.specs.Form.{awaited as awaited_of, command_word, item_word, joined_number as joined_number_of, joined_word, nothing_seen, passes, stepped};
+ghost use Rattle.hc_words.specs.Form.{awaited as awaited_of, command_word, item_word, joined_number as joined_number_of, joined_seed as joined_seed_word, joined_word, nothing_seen, passes, stepped};
 ghost use Rattle.hc_words.specs.Items.{is_between as is_between_text, is_command as is_command_text, is_decimal as is_decimal_text};
 
 /// The number that the next word has to be.
@@ -8,6 +8,7 @@ ghost use Rattle.hc_words.specs.Items.{is_between as is_between_text, is_command
 enum Awaits {
     Nothing,
     Workers,
+    Seed,
 }
 
 /// What the words so far have, and whether the next word has to be a number.
@@ -15,6 +16,7 @@ enum Awaits {
 struct Seen {
     command: bool,
     workers: bool,
+    seed: bool,
     flat: bool,
     awaits: Awaits,
 }
@@ -94,12 +96,25 @@ fn command(seen: Seen, word: &str) -> Option<Seen>
     })
 }
 
-/// One more word that is no name of an option: a number of workers or a command; none where it is refused.
+/// One more word that is no name of an option and no number of workers: a seed or a command; none where it is refused.
+fn joined_seed(seen: Seen, word: &str) -> Option<Seen>
+    ensures { result ≡ joined_seed_word seen word.now (joined_number_of (codes "--seed=") word.now) }
+{
+    let Some(number) = joined_number("--seed=", word) else {
+        return command(seen, word);
+    };
+    if seen.seed || !is_between(number, 0, u64::MAX) {
+        return None;
+    }
+    Some(Seen { seed: true, ..seen })
+}
+
+/// One more word that is no name of an option: a number of workers, a seed or a command; none where it is refused.
 fn joined(seen: Seen, word: &str) -> Option<Seen>
     ensures { result ≡ joined_word seen word.now (joined_number_of (codes "--workers=") word.now) }
 {
     let Some(number) = joined_number("--workers=", word) else {
-        return command(seen, word);
+        return joined_seed(seen, word);
     };
     if seen.workers || !is_between(number, 1, 64) {
         return None;
@@ -124,6 +139,16 @@ fn item(seen: Seen, word: &str) -> Option<Seen>
             ..seen
         });
     }
+    if word == "--seed" {
+        if seen.seed {
+            return None;
+        }
+        return Some(Seen {
+            seed: true,
+            awaits: Awaits::Seed,
+            ..seen
+        });
+    }
     if word == "--flat" {
         if seen.flat {
             return None;
@@ -140,6 +165,7 @@ fn step(seen: Seen, word: &str) -> Option<Seen>
     match seen.awaits {
         Awaits::Nothing => item(seen, word),
         Awaits::Workers => awaited(seen, word, 1, 64),
+        Awaits::Seed => awaited(seen, word, 0, u64::MAX),
     }
 }
 
@@ -150,6 +176,7 @@ pub(crate) fn has_form(words: &[String]) -> bool
     let mut seen = Seen {
         command: false,
         workers: false,
+        seed: false,
         flat: false,
         awaits: Awaits::Nothing,
     };

@@ -50,6 +50,12 @@ fn workers_parser<'a>() -> ValueParser<'a>
     clap::value_parser!(u64).range(1..=64)
 }
 
+fn seed_parser<'a>() -> ValueParser<'a>
+    ensures { result ≡ vp.Unsigned 0 18446744073709551615 }
+{
+    clap::value_parser!(u64)
+}
+
 fn command_arg<'a>(alloc: Global) -> Arg<'a>
     ensures rule { IsCommandRule (rule_of result) }
     ensures local { result.global ≡ false }
@@ -86,11 +92,13 @@ fn parsed<'a>(alloc: Global, words: &'a [String]) -> Result<ArgMatches<'a>, Erro
 {
     let command = command_arg(alloc);
     let workers = option_arg(alloc, "workers", workers_parser(), "1");
+    let seed = option_arg(alloc, "seed", seed_parser(), "0");
     let flat = flat_arg(alloc);
     let program = Command::new(alloc, "hardcaml")
         .no_binary_name(true)
         .arg(command)?
         .arg(workers)?
+        .arg(seed)?
         .arg(flat)?;
     program.try_get_matches_from(words)
 }
@@ -116,19 +124,20 @@ fn job_of(matches: &ArgMatches) -> Job
     ensures workers { option_map (digits_value 10) (one_text (found_of matches.now) (codes "workers")) ≡ Some result.workers }
     ensures set { one_text (found_of matches.now) (codes "flat") ≡ Some (codes "true") → result.flat ≡ true }
     ensures unset { one_text (found_of matches.now) (codes "flat") ≡ Some (codes "false") → result.flat ≡ false }
-    ensures seed { result.seed ≡ 0 }
+    ensures seed { option_map (digits_value 10) (one_text (found_of matches.now) (codes "seed")) ≡ Some result.seed }
 {
     let verb = match matches.get_str("command") {
         Some(name) => verb_of(name).unwrap_or(Verb::Verilog),
         None => Verb::Verilog,
     };
     let workers = matches.get_one::<u32>("workers").unwrap_or(1);
+    let seed = matches.get_one::<u64>("seed").unwrap_or(0);
     let flat = matches.get_flag("flat");
     Job {
         verb,
         workers,
         flat,
-        seed: 0,
+        seed,
     }
 }
 

@@ -19,8 +19,11 @@ returns c =
     let program_is : app_of c.in_ok-program.program ≡ app names =
     c.in_ok-program.ensures.shape c.flat_arg-flat.ensures.local
     ∙ ap₂ with_rule
+    (c.in_ok-arg-3.ensures.shape c.option_arg-seed.ensures.local
+    ∙ ap₂ with_rule
     (c.in_ok-arg-2.ensures.shape c.option_arg-workers.ensures.local
     ∙ ap₂ with_rule (c.in_ok-arg.ensures.shape c.command_arg-command.ensures.local ∙ ap₂ with_rule plain_is verb.2) (c.option_arg-workers.ensures.rule ∙ ap (λ p. option_rule (codes "workers") p (codes "1")) c.workers_parser.ensures))
+    (c.option_arg-seed.ensures.rule ∙ ap (λ p. option_rule (codes "seed") p (codes "0")) c.seed_parser.ensures))
     c.flat_arg-flat.ensures.rule in
     let parse = c.try_get_matches_from in
     let some = c.requires in
@@ -34,6 +37,7 @@ returns c =
           record {
             verb = first_value-rows (found_of m) (codes "command") ∙ ap (first_of (codes "command")) same ∙ parses.verb;
             workers = one_text-rows (found_of m) (codes "workers") ∙ ap (one_of (codes "workers")) same ∙ parses.workers;
+            seed = one_text-rows (found_of m) (codes "seed") ∙ ap (one_of (codes "seed")) same ∙ parses.seed;
             flat = one_text-rows (found_of m) (codes "flat") ∙ ap (one_of (codes "flat")) same ∙ parses.flat;
           }) parse.ensures.matches;
       err = IfErr-weaker parse.result _ _ (λ e h. h taken) parse.ensures.passes;

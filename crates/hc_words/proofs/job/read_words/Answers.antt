@@ -2,7 +2,7 @@ use Rattle.std.proofs.Common.{◌≡◌, Bool, true, false, cond, Some, refl, co
 use Rattle.std.specs.Str.Parse.{digits_value}
 use Rattle.hc_words.specs.Items.{is_about, text_at}
 use Rattle.hc_words.proofs.FormLaw.{no_job, spelled_by}
-use Rattle.hc_words.proofs.Law.{flat_text, verb_lawful, workers_lawful}
+use Rattle.hc_words.proofs.Law.{flat_text, seed_lawful, verb_lawful, workers_lawful}
 use Rattle.hc_words.proofs.job.read_words.Goals as goal
 
 pub returns-then-not-has_form-clause-err : goal.returns-then-not-has_form-clause-err
@@ -23,6 +23,9 @@ job_of-requires c =
       workers = unwrap_or (text_at (codes "workers") some.0) (codes "1");
       workers_is = values.workers;
       workers_lawful = workers_lawful some.0 some.1.lawful;
+      seed = unwrap_or (text_at (codes "seed") some.0) (codes "0");
+      seed_is = values.seed;
+      seed_lawful = seed_lawful some.0 some.1.lawful;
     }
 
 pub returns-in-Ok-clause-ok : goal.returns-in-Ok-clause-ok
@@ -41,7 +44,7 @@ returns-in-Ok-clause-ok c =
       verb = sym values.verb ∙ read.verb;
       workers = ap (λ o. unwrap_or o 0) (sym read.workers ∙ ap (option_map (digits_value 10)) values.workers);
       flat = by there refl;
-      seed = read.seed;
+      seed = ap (λ o. unwrap_or o 0) (sym read.seed ∙ ap (option_map (digits_value 10)) values.seed);
     }
 
 pub returns-in-Ok-clause-none : goal.returns-in-Ok-clause-none

@@ -1,4 +1,4 @@
-use Rattle.hc_words.proofs.Decided.{no_gen, words_decided}
+use Rattle.hc_words.proofs.Decided.{few_workers, no_gen, words_decided}
 use Rattle.hc_words.proofs.word_laws.words_are_decided.Goals as goal
 
 pub returns-clause-job : goal.returns-clause-job
@@ -6,3 +6,6 @@ returns-clause-job c = words_decided
 
 pub returns-clause-command : goal.returns-clause-command
 returns-clause-command c = no_gen
+
+pub returns-clause-workers : goal.returns-clause-workers
+returns-clause-workers c = few_workers

@@ -1,0 +1,9 @@
+use Rattle.std.proofs.lemmas.Result.{on_ok_weaker}
+use Rattle.hc_workload.specs.Workload.{circuit}
+use Rattle.hc_workload.proofs.Joining.{join}
+use Rattle.hc_workload.proofs.levels.push_circuit.Goals as goal
+
+pub returns : goal.returns
+unfolding circuit
+returns c =
+    on_ok_weaker c.push-5.result (join (join (join (join (join (join (join c.in_ok-push.ensures c.in_ok-push_number.ensures) c.in_ok-push-2.ensures) c.in_ok-push_number-2.ensures) c.in_ok-push-3.ensures) c.in_ok-push-4.ensures) c.in_ok-push_instances.ensures)) c.push-5.ensures

@@ -2,12 +2,16 @@
 #![tactic(auto)]
 
 use hc_bits::OpKind;
-use hc_cli::run_one;
+use hc_cli::run;
 use hc_ops::functions::{greatest, leading_zeros, least, popcount, reverse, saturating_sum};
 use hc_ops::{CombOp, OpTable};
-use hc_outside::{StdSink, StdSource};
+use hc_outside::{Sink, Source, StdSink, StdSource};
+use hc_workers::NoGate;
+use std::alloc::Global;
 use std::io::LineWriter;
 use std::process::ExitCode;
+use std::sync::Wait;
+use std::thread::Threads;
 use std::{env, io};
 
 /// The command line, without the program's own name.
@@ -19,10 +23,14 @@ fn words(rt: &HostRuntime) -> io::Result<Vec<String>> {
     Ok(words)
 }
 
-/// The status of the run by the standard streams.
-fn status(rt: &HostRuntime) -> io::Result<u8> {
-    let alloc = rt.alloc();
-    let words = words(rt)?;
+/// The status of the top call, with the operations of the catalogue.
+fn status<R: Threads + Wait + Sync, S: Source, K: Sink>(
+    rt: &R,
+    alloc: Global,
+    words: &[String],
+    input: &mut S,
+    output: &mut K,
+) -> io::Result<u8> {
     let ops = OpTable::new(vec![in alloc;
         CombOp::new(OpKind::Popcount, Box::new(alloc, popcount)?),
         CombOp::new(OpKind::Clz, Box::new(alloc, leading_zeros)?),
@@ -31,11 +39,16 @@ fn status(rt: &HostRuntime) -> io::Result<u8> {
         CombOp::new(OpKind::Max, Box::new(alloc, greatest)?),
         CombOp::new(OpKind::SatAdd, Box::new(alloc, saturating_sum)?),
     ]?);
-    let mut input = StdSource::new(rt.stdin());
-    let mut output = StdSink::new(LineWriter::new(alloc, rt.stdout())?);
-    Ok(run_one(alloc, &words, &ops, &mut input, &mut output).status)
+    Ok(run(rt, alloc, words, &ops, input, output, &NoGate).status)
 }
 
 fn main(rt: HostRuntime) -> ExitCode {
-    ExitCode::from(status(&rt).unwrap_or(5))
+    let alloc = rt.alloc();
+    let (Ok(words), Ok(writer)) = (words(&rt), LineWriter::new(alloc, rt.stdout())) else {
+        return ExitCode::from(5);
+    };
+    let mut input = StdSource::new(rt.stdin());
+    let mut output = StdSink::new(writer);
+    let status = status(&rt, alloc, &words, &mut input, &mut output);
+    ExitCode::from(status.unwrap_or(5))
 }

@@ -23,7 +23,8 @@ use Rattle.hc_bench.specs.Listing.{CycleRow}
 use Rattle.hc_bench.specs.Answers.{Refuses}
 use Rattle.hc_bench.specs.Steps.{steps_of}
 use Rattle.hc_bench.specs.Trace.{IsRun}
-use Rattle.hc_plan.specs.Elaborates.{DesignElaborates, Elaborated}
+use Rattle.hc_dbstate.specs.History.{History}
+use Rattle.hc_plan.specs.Elaborates.{DesignElaborates, Elaborated, ElaboratedCall}
 use Rattle.hc_output.specs.Output.{IsOutput}
 use Rattle.hc_output.specs.Prepared.{HasOutput, IsReady}
 use Rattle.hc_output.specs.declared.kinds.Output.{Output}
@@ -32,7 +33,9 @@ use Rattle.hc_cli.specs.declared.prepared.Prepared.{Prepared}
 use Rattle.hc_cli.specs.declared.prepared.Prepared.TheVariants as is
 use Rattle.hc_cli.specs.Clauses.{EndsInput}
 use Rattle.hc_cli.specs.Due.{Due, IsDesignDue, IsDue, IsTextDue, asked, bench_broken, broken, done, faulty, parsed, refusal, refused, text_fault, told, too_long, whole}
-use Rattle.hc_cli.specs.Histories.{HistoryRule, no_history}
+use Rattle.hc_cli.specs.Histories.{HistoryRule, IsThis, no_history}
+use Rattle.hc_cli.specs.Read.{IsReadFrom}
+use Rattle.hc_cli.specs.declared.read.Read.TheVariants as reads
 use Rattle.hc_cli.specs.Prepared.{IsBenchToldOf, IsToldOf, Serves, ServesDesign, ServesInput, ServesLeft, ServesText, history_in}
 
 -- ---- what serves what is due
@@ -47,35 +50,21 @@ long_ends (Some text) new long = λ fits. absurd (omega (arith, long, fits))
 no_path : (f : Fault) → f.path ≡ None → f ≡ text_fault f.kind f.line
 no_path f e = grind arith
 
-module _ (Rule : HistoryRule) (no_calls : Rule no_history []) where
-  pub serves_refusal : Serves Rule is.Refusal refusal
-  serves_refusal = record { status = refl; out = refl; history = no_calls; ready = tt }
+-- ---- what was read is due
 
-  pub serves_told : (f : Fault) → Serves Rule (is.Told f) (told f [])
-  serves_told f = record { status = refl; out = refl; history = no_calls; ready = tt }
+pub faulty_read : (text : List ℕ) (f : Fault) → length text ≤ 4194304 → Answers text (Err (refusals.Fault f)) → (job : Job) → IsTextDue job text (told f [])
+faulty_read text f fits answer job = subst (λ (g : Fault). IsTextDue job text (told g [])) (sym (no_path f answer.1)) (faulty f.kind f.line fits answer.0)
 
-  pub long_text : (job : Job) (text : List ℕ) → 4194304 < length text → ServesText Rule job text (is.Told (text_fault TooLong 0))
-  long_text job text long = (told (text_fault TooLong 0) [], too_long long, serves_told (text_fault TooLong 0))
+long_from : (n : ℕ) (left : Option (List ℕ)) (f : Fault) → LongerThan left n → ((text : List ℕ) → n < length text → (job : Job) → IsTextDue job text (told f [])) → IsReadFrom left (reads.Faulty f)
+long_from n None f long due = let text = long_one n in (text.0, tt, due text.0 text.1)
+long_from n (Some text) f long due = (text, refl, due text long)
 
-  pub refused_left : (words : List (List ℕ)) (left : Option (List ℕ)) → HasNoJob words → ServesLeft Rule words left is.Refusal
-  refused_left words None none = ([], refusal, tt, refused none, serves_refusal)
-  refused_left words (Some text) none = (text, refusal, refl, refused none, serves_refusal)
+pub long_read : (left : Option (List ℕ)) → LongerThan left 4194304 → IsReadFrom left (reads.Faulty (text_fault TooLong 0))
+long_read left long = long_from 4194304 left (text_fault TooLong 0) long (λ text more job. too_long more)
 
-  long_input : (n : ℕ) (job : Job) (left : Option (List ℕ)) (p : Prepared) → LongerThan left n → ((text : List ℕ) → n < length text → ServesText Rule job text p) → ServesInput Rule job left p
-  long_input n job None p long serves = let text = long_one n in let s = serves text.0 text.1 in (text.0, s.0, tt, s.1, s.2)
-  long_input n job (Some text) p long serves = let s = serves text long in (text, s.0, refl, s.1, s.2)
+-- ---- elaborated designs
 
-  pub long_left : (job : Job) (left : Option (List ℕ)) (p : Prepared) → LongerThan left 4194304 → ((job : Job) (text : List ℕ) → 4194304 < length text → ServesText Rule job text p) → ServesInput Rule job left p
-  long_left job left p long serves = long_input 4194304 job left p long (serves job)
-
-  pub text_input : (job : Job) (left : Option (List ℕ)) (text : List ℕ) (p : Prepared) → Holds left text → ServesText Rule job text p → ServesInput Rule job left p
-  text_input job left text p holds s = (text, s.0, holds, s.1, s.2)
-
-  pub asked_left : (words : List (List ℕ)) (left : Option (List ℕ)) (job : Job) (p : Prepared) → IsJob words job → ServesInput Rule job left p → ServesLeft Rule words left p
-  asked_left words left job p j s = (s.0, s.1, s.2, asked job j s.3, s.4)
-
-  -- ---- designs
-
+module _ (Rule : HistoryRule) where
   serves_bench : (job : Job) (d : Design) (e : Elaborated) (f : Fault) (k : Kept) → DesignElaborates d (Ok e) → steps_of d (graph e.tree).ports ≡ Err f → Rule (history_in k) e.calls → ServesDesign Rule job d (is.BenchTold f k)
   serves_bench job d e f k elaborates fault history = (told f e.calls, bench_broken e f elaborates fault, record { status = refl; out = refl; history = history; ready = tt })
 
@@ -88,25 +77,42 @@ module _ (Rule : HistoryRule) (no_calls : Rule no_history []) where
   serves_whole job d e steps o k elaborates given (rows, out, run, output, text) ready history =
       (done e.calls out, whole e steps rows out elaborates given run output, record { status = refl; out = text; history = history; ready = ready })
 
+  -- the history of the database is one by the rule
+  pub by_rule : (job : Job) (d : Design) (p : Prepared) (h : History) (calls : List ElaboratedCall) → ServesDesign (IsThis h calls) job d p → Rule h calls → ServesDesign Rule job d p
+  by_rule job d p h calls s is = (
+    s.0,
+    s.1,
+    record { status = s.2.status; out = s.2.out; history = subst (λ (g : History). Rule g s.0.calls) (sym s.2.history.0) (subst (Rule h) (sym s.2.history.1) is); ready = s.2.ready },
+  )
+
+-- ---- without an elaborated design
+
+module _ (Rule : HistoryRule) (no_calls : Rule no_history []) where
+  pub serves_refusal : Serves Rule is.Refusal refusal
+  serves_refusal = record { status = refl; out = refl; history = no_calls; ready = tt }
+
+  pub serves_told : (f : Fault) → Serves Rule (is.Told f) (told f [])
+  serves_told f = record { status = refl; out = refl; history = no_calls; ready = tt }
+
+  pub refused_left : (words : List (List ℕ)) (left : Option (List ℕ)) → HasNoJob words → ServesLeft Rule words left is.Refusal
+  refused_left words None none = ([], refusal, tt, refused none, serves_refusal)
+  refused_left words (Some text) none = (text, refusal, refl, refused none, serves_refusal)
+
+  pub asked_left : (words : List (List ℕ)) (left : Option (List ℕ)) (job : Job) (p : Prepared) → IsJob words job → ServesInput Rule job left p → ServesLeft Rule words left p
+  asked_left words left job p j s = (s.0, s.1, s.2, asked job j s.3, s.4)
+
+  pub told_input : (job : Job) (left : Option (List ℕ)) (f : Fault) → IsReadFrom left (reads.Faulty f) → ServesInput Rule job left (is.Told f)
+  told_input job left f r = (r.0, told f [], r.1, r.2 job, serves_told f)
+
+  pub parsed_input : (job : Job) (left : Option (List ℕ)) (d : Design) (p : Prepared) → IsReadFrom left (reads.Parsed d) → ServesDesign Rule job d p → ServesInput Rule job left p
+  parsed_input job left d p r s = (r.0, s.0, r.1, r.2 job s.0 s.1, s.2)
+
   pub serves_broken : (job : Job) (d : Design) (r : Refused) (result : Result Prepared NoMemory) → FaultIs (λ f. DesignElaborates d (Err f)) r → IfOk result (IsToldOf r) → IfOk result (ServesDesign Rule job d)
   serves_broken job d r result fault are = IfOk-weaker result _ _ (λ p told_of. by r p fault told_of) are
     where
       by : (r : Refused) (p : Prepared) → FaultIs (λ f. DesignElaborates d (Err f)) r → IsToldOf r p → ServesDesign Rule job d p
       by (refusals.Fault f) p fault same = subst (ServesDesign Rule job d) (sym same) (told f [], broken f fault, serves_told f)
       by refusals.NoMemory p fault same = absurd same
-
-  -- ---- texts
-
-  pub serves_parsed : (job : Job) (text : List ℕ) (d : Design) (p : Prepared) → length text ≤ 4194304 → ParsesTo text d → ServesDesign Rule job d p → ServesText Rule job text p
-  serves_parsed job text d p fits parses s = (s.0, parsed d fits parses s.1, s.2)
-
-  pub serves_faulty : (job : Job) (text : List ℕ) (r : Refused) (result : Result Prepared NoMemory) → length text ≤ 4194304 → Answers text (Err r) → IfOk result (IsToldOf r) → IfOk result (ServesText Rule job text)
-  serves_faulty job text r result fits answer are = IfOk-weaker result _ _ (λ p told_of. by r p answer told_of) are
-    where
-      by : (r : Refused) (p : Prepared) → Answers text (Err r) → IsToldOf r p → ServesText Rule job text p
-      by (refusals.Fault f) p answer same =
-          subst (ServesText Rule job text) (sym (same ∙ ap is.Told (no_path f answer.1))) (told (text_fault f.kind f.line) [], faulty f.kind f.line fits answer.0, serves_told (text_fault f.kind f.line))
-      by refusals.NoMemory p answer same = absurd same
 
 -- ---- at most one is due
 

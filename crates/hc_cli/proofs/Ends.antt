@@ -9,10 +9,10 @@ use Rattle.hc_output.specs.declared.send.SendStop.{SendStop}
 use Rattle.hc_output.specs.declared.send.SendStop.TheVariants as stop
 use Rattle.hc_cli.specs.declared.prepared.Prepared.{Prepared}
 use Rattle.hc_cli.specs.declared.prepared.Prepared.TheVariants as is
-use Rattle.hc_cli.specs.declared.run.Outcome.{Outcome}
-use Rattle.hc_cli.specs.Clauses.{IsCut, IsDueOrNoMemory, history_of}
+use Rattle.hc_cli.specs.declared.ending.Outcome.{Outcome}
+use Rattle.hc_cli.specs.Clauses.{ForDue, IsCut, IsDone, IsDueOrNoMemory, history_of}
 use Rattle.hc_cli.specs.Due.{Due, IsDue}
-use Rattle.hc_cli.specs.Histories.{HistoryRule, no_history}
+use Rattle.hc_cli.specs.Histories.{HistoryRule, IsHistoryInOrder, IsHistoryOf, no_history}
 use Rattle.hc_cli.specs.Prepared.{IsOutOf, ServesLeft, kept, status_of}
 use Rattle.hc_cli.proofs.Kept.{none_legal}
 
@@ -49,3 +49,11 @@ module _ (Rule : HistoryRule) (words : List (List ℕ)) (left : Option (List ℕ
   legal_end lawful (Ok x) memory history = subst IsLegal (sym (history (λ e. cc))) (lawful (kept p) serves.1.calls serves.4.history)
   legal_end lawful (Err stop.Failed) memory history = subst IsLegal (sym (history (λ e. cc))) (lawful (kept p) serves.1.calls serves.4.history)
   legal_end lawful (Err stop.NoMemory) memory history = subst IsLegal (sym (memory refl).1) none_legal
+
+-- ---- a history in order is a history
+
+pub done_in_order : (words : List (List ℕ)) (left old new : Option (List ℕ)) (o : Outcome) → ForDue words left (IsDone IsHistoryInOrder o old new) → ForDue words left (IsDone IsHistoryOf o old new)
+done_in_order words left old new o s = (s.0, s.1, s.2, s.3, record { status = s.4.status; out = s.4.out; history = s.4.history.history })
+
+pub cut_in_order : (words : List (List ℕ)) (left old new : Option (List ℕ)) (o : Outcome) → ForDue words left (IsCut IsHistoryInOrder o old new) → ForDue words left (IsCut IsHistoryOf o old new)
+cut_in_order words left old new o s = (s.0, s.1, s.2, s.3, record { out = s.4.out; history = s.4.history.history })

@@ -5,3 +5,4 @@ pub mod DueLaws
 pub mod SomeDue
 pub mod Served
 pub mod Ends
+pub mod Orders

@@ -7,7 +7,7 @@ use Rattle.hc_words.specs.declared.job.Job.{Job}
 use Rattle.hc_words.specs.Jobs.{IsJob}
 use Rattle.hc_cli.specs.Due.{Due, IsDue, limit}
 use Rattle.hc_cli.specs.Histories.{HistoryRule}
-use Rattle.hc_cli.specs.declared.run.Outcome.{Outcome}
+use Rattle.hc_cli.specs.declared.ending.Outcome.{Outcome}
 
 -- the entries and the turns that are handed out
 abbrev pub history_of : Outcome → History

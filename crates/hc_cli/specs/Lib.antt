@@ -4,3 +4,4 @@ pub mod Histories
 pub mod Due
 pub mod Clauses
 pub mod Prepared
+pub mod Read

@@ -2,11 +2,18 @@
 #![tactic(auto)]
 
 mod due_laws;
+mod elaborated;
+mod ending;
 mod fault_line;
 mod histories;
+mod many;
+mod one;
 mod prepared;
-mod run;
+mod read;
 
-pub use due_laws::something_is_due;
+pub use due_laws::{one_due, something_is_due};
+pub use ending::Outcome;
 pub use fault_line::write_fault;
-pub use run::{Outcome, one_due, run_one};
+pub use hc_words::{Job, Verb, WordStop, read_words};
+pub use many::run;
+pub use one::run_one;

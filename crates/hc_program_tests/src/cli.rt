@@ -9,24 +9,25 @@ use std::test::Fail;
 
 const USAGE: &str = "usage: hardcaml COMMAND [--workers N] [--flat] [--seed N]\n";
 
-const ADDER: &str = "circuit add8\ninput a 8\ninput b 8\noutput s 8\nassign s add(a,b)\ntop add8\n";
+pub(crate) const ADDER: &str =
+    "circuit add8\ninput a 8\ninput b 8\noutput s 8\nassign s add(a,b)\ntop add8\n";
 
 const ADDER_VERILOG: &str =
     "module add8 (\n  input clock,\n  input [7:0] a,\n  input [7:0] b,\n  output [7:0] s\n);\n  wire [7:0] n1;\n  assign s = n1;\n  assign n1 = a + b;\nendmodule\n";
 
-const SHARED: &str =
+pub(crate) const SHARED: &str =
     "circuit a\ninput x 1\noutput y 1\nassign y not(x)\ncircuit b\ninput x 1\noutput y 1\nassign y not(x)\ncircuit t\ninput x 1\noutput y 1\ninst u a : x=x\ninst v b : x=u.y\nassign y v.y\ntop t\n";
 
 const TWO_WIDTHS: &str =
     "circuit add8\ninput a 8\ninput b 4\noutput s 8\nassign s add(a,b)\ntop add8\n";
 
-const MUX: &str =
+pub(crate) const MUX: &str =
     "circuit t\ninput s 2\ninput a 4\noutput y 4\nassign y mux(s,a,const(4,2),const(4,9))\ntop t\nbench\nset s 3\nset a 5\ncycle\nend\n";
 
 const MUX_NEGATIVE: &str =
     "circuit t\ninput s 2\ninput a 4\noutput y 4\nassign y mux(s,a,const(4,2),const(4,9))\ntop t\nbench\nset s -1\nset a 5\ncycle\nend\n";
 
-const NO_PORT: &str =
+pub(crate) const NO_PORT: &str =
     "circuit t\ninput s 2\ninput a 4\noutput y 4\nassign y mux(s,a,const(4,2),const(4,9))\ntop t\nbench\nset z 1\nset a 5\ncycle\nend\n";
 
 const NO_VALUE: &str =
@@ -41,16 +42,16 @@ const SHARED_FLAT: &str =
 const UNREACHED: &str =
     "circuit f n\noutput y n\nassign y const(n,1)\ncircuit t\noutput c 8\ninst q f 4 :\ninst r f 8 :\nassign c r.y\ntop t\n";
 
-const TREE: &str =
+pub(crate) const TREE: &str =
     "circuit tree n\ninput a 16\noutput s 16\nif n==1\n  assign s a\nelse\n  inst p tree (n/2) : a=a\n  inst q tree (n-n/2) : a=a\n  assign s add(p.s,q.s)\nend\ntop tree 64\nbench\nset a 3\ncycle\nend\n";
 
-const FULL: &str =
+pub(crate) const FULL: &str =
     "circuit leaf\noutput y 1\nassign y const(1,0)\ncircuit mid k\noutput y 1\nfor i 0 k\ninst u[i] leaf :\nend\nassign y u[0].y\ncircuit t\noutput y 1\nfor i 0 255\ninst u[i] mid 256 :\nend\nassign y u[0].y\ntop t\n";
 
 const OVERFULL: &str =
     "circuit leaf\noutput y 1\nassign y const(1,0)\ncircuit mid k\noutput y 1\nfor i 0 k\ninst u[i] leaf :\nend\nassign y u[0].y\ncircuit t\noutput y 1\nfor i 0 255\ninst u[i] mid 256 :\nend\ninst x leaf :\nassign y u[0].y\ntop t\n";
 
-const FIRST_IN_ORDER: &str =
+pub(crate) const FIRST_IN_ORDER: &str =
     "circuit bad1\noutput y 8\nassign y const(4,1)\ncircuit mid\noutput y 8\ninst g bad1 :\nassign y g.y\ncircuit bad2\noutput y 8\nassign y const(8,300)\ncircuit t\noutput y 8\ninst u mid :\ninst v bad2 :\nassign y add(u.y,v.y)\ntop t\n";
 
 const REGISTER: &str =
@@ -90,10 +91,10 @@ const DEEP: &str =
     "circuit d n\noutput y 1\nif n>1\ninst u d (n-1) :\nassign y u.y\nelse\nassign y const(1,1)\nend\ntop d 64\n";
 
 /// A chain of 63 calls that fits where it is met first, and not one level deeper.
-const DEEPER: &str =
+pub(crate) const DEEPER: &str =
     "circuit d n\noutput y 1\nif n>1\ninst u d (n-1) :\nassign y u.y\nelse\nassign y const(1,1)\nend\ncircuit w\noutput y 1\ninst v d 63 :\nassign y v.y\ncircuit t\noutput y 1\ninst a d 63 :\ninst b w :\nassign y and(a.y,b.y)\ntop t\n";
 
-const DEEPER_LINE: &str =
+pub(crate) const DEEPER_LINE: &str =
     "F29 TooDeep line 4 path /b/v/u/u/u/u/u/u/u/u/u/u/u/u/u/u/u/u/u/u/u/u/u/u/u/u/u/u/u/u/u/u/u/u/u/u/u/u/u/u/u/u/u/u/u/u/u/u/u/u/u/u/u/u/u/u/u/u/u/u/u/u/u\n";
 
 /// The status and the bytes of a run, how many turns and entries were handed out.
@@ -101,11 +102,40 @@ const DEEPER_LINE: &str =
 pub(crate) struct Ran {
     pub(crate) status: u8,
     pub(crate) written: Vec<u8>,
-    turns: usize,
-    entries: usize,
+    pub(crate) turns: usize,
+    pub(crate) entries: usize,
 }
 
-/// A run whose source fails at the call `failing`, and whose sink has this room. The words stand between spaces.
+/// The words of a line, which stand between spaces.
+pub(crate) fn words_of(alloc: Global, line: &str) -> Result<Vec<String>, Fail> {
+    let mut words = Vec::new(alloc);
+    for word in line.split(' ') {
+        words.push(String::from_str(alloc, word)?)?;
+    }
+    Ok(words)
+}
+
+/// The operations of the catalogue.
+pub(crate) fn operations(alloc: Global) -> Result<OpTable, Fail> {
+    Ok(OpTable::new(vec![in alloc;
+        CombOp::new(OpKind::Popcount, Box::new(alloc, popcount)?),
+        CombOp::new(OpKind::Clz, Box::new(alloc, leading_zeros)?),
+        CombOp::new(OpKind::Rev, Box::new(alloc, reverse)?),
+        CombOp::new(OpKind::Min, Box::new(alloc, least)?),
+        CombOp::new(OpKind::Max, Box::new(alloc, greatest)?),
+        CombOp::new(OpKind::SatAdd, Box::new(alloc, saturating_sum)?),
+    ]?))
+}
+
+/// A sink with this room.
+pub(crate) fn sink_of<R: Abort>(rt: &R, alloc: Global, room: usize) -> MemSink {
+    match MemSink::new(alloc, room, Vec::new(alloc), 4096) {
+        Ok(sink) => sink,
+        Err(_) => panic!(rt; "no sink"),
+    }
+}
+
+/// A run by one worker, whose source fails at the call `failing`, and whose sink has this room.
 pub(crate) fn run<R: Abort>(
     rt: &R,
     alloc: Global,
@@ -114,28 +144,15 @@ pub(crate) fn run<R: Abort>(
     failing: Option<u64>,
     room: usize,
 ) -> Result<Ran, Fail> {
-    let mut words = Vec::new(alloc);
-    for word in line.split(' ') {
-        words.push(String::from_str(alloc, word)?)?;
-    }
+    let words = words_of(alloc, line)?;
     let mut fails = Vec::new(alloc);
     if let Some(call) = failing {
         fails.push(call)?;
     }
     let text = Vec::from_slice(alloc, text)?;
     let mut source = MemSource::new(text, fails, 8);
-    let mut sink = match MemSink::new(alloc, room, Vec::new(alloc), 4096) {
-        Ok(sink) => sink,
-        Err(_) => panic!(rt; "no sink"),
-    };
-    let ops = OpTable::new(vec![in alloc;
-        CombOp::new(OpKind::Popcount, Box::new(alloc, popcount)?),
-        CombOp::new(OpKind::Clz, Box::new(alloc, leading_zeros)?),
-        CombOp::new(OpKind::Rev, Box::new(alloc, reverse)?),
-        CombOp::new(OpKind::Min, Box::new(alloc, least)?),
-        CombOp::new(OpKind::Max, Box::new(alloc, greatest)?),
-        CombOp::new(OpKind::SatAdd, Box::new(alloc, saturating_sum)?),
-    ]?);
+    let mut sink = sink_of(rt, alloc, room);
+    let ops = operations(alloc)?;
     let outcome = run_one(alloc, &words, &ops, &mut source, &mut sink);
     Ok(Ran {
         status: outcome.status,

@@ -10,6 +10,8 @@ mod elab;
 #[cfg(test)]
 mod faults;
 #[cfg(test)]
+mod many;
+#[cfg(test)]
 mod operations;
 #[cfg(test)]
 mod outside;

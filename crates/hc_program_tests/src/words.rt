@@ -39,7 +39,7 @@ const CASES: [(&[&str], Option<(Verb, u32, bool)>); 25] = [
     (&["verilog", "--workers"], None),
     (&["verilog", "--workers", "--flat"], None),
     (&["--workers", "2", "verilog", "--workers=2"], None),
-    (&["verilog", "--seed", "1"], None),
+    (&["verilog", "--seed", "0"], Some((Verb::Verilog, 1, false))),
     (&["verilog", "sim"], None),
     (&["gen"], None),
     (&["--", "verilog"], None),

@@ -3,9 +3,9 @@ use Rattle.std.proofs.lemmas.Result.{IfOk-weaker}
 use Rattle.hc_dbstate.specs.History.{History}
 use Rattle.hc_plan.specs.Hierarchies.{LogsDistinct}
 use Rattle.hc_cli.specs.Histories.{IsHistoryInOrder}
-use Rattle.hc_cli.proofs.DueLaws.{serves_broken}
+use Rattle.hc_cli.proofs.DueLaws.{by_rule, serves_broken}
 use Rattle.hc_cli.proofs.Kept.{no_calls_in_order}
-use Rattle.hc_cli.proofs.run.prepare_design.Goals as goal
+use Rattle.hc_cli.proofs.one.prepare_design.Goals as goal
 
 pub returns-in-Err : goal.returns-in-Err
 returns-in-Err c = serves_broken IsHistoryInOrder no_calls_in_order c.args.job.now c.args.design.now c.in-Err.refused c.told.result c.in-Err.ensures.fault c.told.ensures
@@ -19,4 +19,4 @@ returns-in-Ok c =
     let law = c.elaborations_have_histories.ensures in
     let called = law.called db c.in-Ok.hier e.0 legal e.2 logs in
     let history = law.history db c.in-Ok.hier e.0 legal e.2 logs in
-    IfOk-weaker c.prepare_elaborated.result _ _ (λ p s. s e.0 e.1 e.2 called history) c.prepare_elaborated.ensures
+    IfOk-weaker c.prepare_elaborated.result _ _ (λ p s. by_rule IsHistoryInOrder c.args.job.now c.args.design.now p db e.0.calls (s e.0 e.1 e.2 called) history) c.prepare_elaborated.ensures

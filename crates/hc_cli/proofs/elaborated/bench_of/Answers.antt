@@ -3,7 +3,7 @@ use Rattle.hc_canon.specs.declared.form.EntryId.{EntryId}
 use Rattle.hc_dbstate.specs.declared.hier.Hier.TheFolds.{fold_out-Hier}
 use Rattle.hc_dbstate.specs.Elaboration.{HierView, hier_level}
 use Rattle.hc_flatten.proofs.Elaborated.{top_within}
-use Rattle.hc_cli.proofs.run.bench_of.Goals as goal
+use Rattle.hc_cli.proofs.elaborated.bench_of.Goals as goal
 
 pub get-form-requires : goal.get-form-requires
 get-form-requires c =

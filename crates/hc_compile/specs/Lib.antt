@@ -1,0 +1,6 @@
+pub mod Plan
+pub mod Tables
+pub mod Needs
+pub mod Crossing
+pub mod Views
+pub mod Compiled

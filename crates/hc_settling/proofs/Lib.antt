@@ -1,0 +1,11 @@
+pub mod Agrees
+pub mod Steps
+pub mod Meant
+pub mod Quiet
+pub mod Taken
+pub mod Whole
+pub mod Marks
+pub mod Changes
+pub mod Told
+pub mod Settles
+pub mod Tops

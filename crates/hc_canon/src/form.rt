@@ -1,6 +1,8 @@
 ghost use Rattle.std.specs.Prelude.{◌≡◌};
 ghost use Rattle.hc_canon.specs.FormView.{IsForm};
+ghost use Rattle.hc_canon.specs.Hashing.{hash_of};
 
+use crate::hashing::hash_parts;
 use hc_fault::ItemList;
 use hc_signal::Circuit;
 use std::marker::Model;
@@ -10,21 +12,24 @@ use std::marker::Model;
 pub struct EntryId(pub usize);
 
 /// A circuit in the canonical numbering, with the entry of each of its instances in order. It has an output, at most 128
-/// inputs and 128 outputs, and a driver for each wire that its outputs reach.
+/// inputs and 128 outputs, and a driver for each wire that its outputs reach. Its hash is computed once, where it is made.
 #[derive(Drop)]
 pub struct Form {
     circuit: Circuit,
     kids: ItemList<EntryId>,
+    hash: u64,
 }
 
 impl Model for Form {
+    ghost use Rattle.std.specs.Prelude.{◌≡◌};
     ghost use Rattle.hc_canon.specs.FormView.{FormView, IsForm};
+    ghost use Rattle.hc_canon.specs.Hashing.{hash_of};
 
     ghost Value = { FormView };
 
     ghost view = { λ form. record { circuit = form.circuit; kids = form.kids } };
 
-    ghost invariant = { λ form. IsForm (record { circuit = form.circuit; kids = form.kids }) };
+    ghost invariant = { λ form. IsForm (record { circuit = form.circuit; kids = form.kids }) × (form.hash ≡ hash_of (record { circuit = form.circuit; kids = form.kids })) };
 }
 
 impl Form {
@@ -40,7 +45,12 @@ impl Form {
         requires { IsForm (record { circuit = circuit; kids = kids }) }
         ensures { result ≡ record { circuit = circuit; kids = kids } }
     {
-        Form { circuit, kids }
+        let hash = hash_parts(&circuit, kids.as_slice());
+        Form {
+            circuit,
+            kids,
+            hash,
+        }
     }
 
     /// The circuit.
@@ -56,4 +66,11 @@ impl Form {
     {
         self.kids.as_slice()
     }
+}
+
+/// A hash of 64 bits. Equal forms have equal hashes.
+pub fn hash(form: &Form) -> u64
+    ensures { result ≡ hash_of form.now }
+{
+    form.hash
 }

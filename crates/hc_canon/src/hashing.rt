@@ -1,7 +1,7 @@
 ghost use Rattle.std.specs.Prelude.{◌≡◌, ℕ};
 ghost use Rattle.hc_canon.specs.Hashing.{hash_of, kind_code, mix, mix_bits, mix_circuit, mix_clear, mix_entry, mix_id, mix_instance, mix_list, mix_memory, mix_name, mix_node, mix_option, mix_port, mix_ports, mix_row, mix_write, op_code};
 
-use crate::form::{EntryId, Form};
+use crate::form::EntryId;
 use hc_bits::{Bits, OpKind};
 use hc_fault::Name;
 use hc_signal::{
@@ -215,10 +215,10 @@ impl Hashed for Circuit {
     }
 }
 
-/// A hash of 64 bits. Equal forms have equal hashes.
+/// The hash of the form of these parts.
 #[tactic(auto, unfolding(crate::specs::Hashing::hash_of))]
-pub fn hash(form: &Form) -> u64
-    ensures { result ≡ hash_of form.now }
+pub(crate) fn hash_parts(circuit: &Circuit, kids: &[EntryId]) -> u64
+    ensures { result ≡ hash_of (record { circuit = circuit.now; kids = kids.now }) }
 {
-    mix_list(form.circuit().mix_into(0), form.kids())
+    mix_list(circuit.mix_into(0), kids)
 }

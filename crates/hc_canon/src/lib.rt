@@ -12,8 +12,7 @@ mod renumber;
 
 pub use canon_form::canon;
 pub use equal::same;
-pub use form::{EntryId, Form};
-pub use hashing::hash;
+pub use form::{EntryId, Form, hash};
 pub use laws::{
     canonical_forms_are_single, canonical_forms_exist, equal_forms_have_equal_hashes,
     forms_decide_isomorphism, same_is_an_equivalence,

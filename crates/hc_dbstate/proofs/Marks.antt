@@ -35,7 +35,7 @@ set_length [] k = refl
 set_length (m ∷ marks) zero = refl
 set_length (m ∷ marks) (suc k) = ap suc (set_length marks k)
 
-marked_other : (marks : List Bool) (id k : EntryId) → IsMarked (with_mark marks id) k → IsMarked marks k ⊎ (k ≡ id)
+pub marked_other : (marks : List Bool) (id k : EntryId) → IsMarked (with_mark marks id) k → IsMarked marks k ⊎ (k ≡ id)
 marked_other marks id k h = elim (cases_eq id.0 k.0) [
   | inl same ↦ inr (ap (λ (n : ℕ). let e : EntryId = record { 0 = n } in e) (sym same))
   | inr other ↦ inl (sym (set_other marks id.0 k.0 other) ∙ h)

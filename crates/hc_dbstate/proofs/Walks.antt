@@ -1,10 +1,13 @@
 -- The walk of a hierarchy.
 use Rattle.std.proofs.Common.{◌≡◌, ℕ, ◌⊎◌, inl, inr, List, [], ◌∷◌, ◌++◌, map, flat_map, refl, sym, ap, subst, ◌∙◌}
+use Rattle.std.specs.Arc.{arc_value}
+use Rattle.std.specs.declared.alloc.Global.{Global}
+use Rattle.std.specs.declared.sync.Arc.{Arc}
 use Rattle.hc_signal.specs.Member.{Has, first, later}
 use Rattle.hc_dbstate.specs.declared.hier.Hier.{Hier, out-Hier}
 use Rattle.hc_dbstate.specs.declared.hier.Hier.TheOpen.{Hier-F}
 use Rattle.hc_dbstate.specs.declared.hier.Hier.TheFolds.{fold_out-Hier, fold-roll-Hier, ind-Hier, map-Hier}
-use Rattle.hc_dbstate.specs.Elaboration.{HierView, CallRow, CallView, hier_view, hier_level, call_level, row_level, walk}
+use Rattle.hc_dbstate.specs.Elaboration.{HierView, CallRow, CallView, hier_view, hier_level, call_level, kids_in, walk}
 
 has_left : {X : Type 0} {xs : List X} (ys : List X) {x : X} → Has xs x → Has (xs ++ ys) x
 has_left ys first = first
@@ -18,6 +21,22 @@ has_cases : {X : Type 0} (xs ys : List X) {x : X} → Has (xs ++ ys) x → Has x
 has_cases [] ys h = inr h
 has_cases (x ∷ xs) ys first = inl first
 has_cases (x ∷ xs) ys (later h) = elim (has_cases xs ys h) [ inl l ↦ inl (later l) | inr r ↦ inr r ]
+
+-- ---- what calls share
+
+abbrev shared_map : {X Y : Type 0} → (X → Y) → Arc X Global → Arc Y Global
+shared_map f a = record { ptr = a.ptr; value = f a.value }
+
+-- a function of the values of shared ones
+pub of_shared : {X Y : Type 0} (f : X → Y) (xs : List (Arc X Global)) → map arc_value (map (shared_map f) xs) ≡ map f (map arc_value xs)
+of_shared f [] = refl
+of_shared f (x ∷ xs) = ap (λ ys. f (arc_value x) ∷ ys) (of_shared f xs)
+
+-- the views of the kids of a hierarchy
+pub kid_views : (x : Hier-F Hier) → kids_in (map-Hier Hier HierView hier_view x) ≡ map hier_view (kids_in x)
+kid_views x = of_shared hier_view x.kids
+
+-- ---- walks
 
 -- a hierarchy's view ends with its own call
 abbrev Ends : HierView → Type 0
@@ -74,11 +93,23 @@ level_closed hs own are below call kid h k = elim (has_cases (flat_map calls_of 
   | inr last ↦ in_left _ (own ∷ []) kid (own_among hs kid (subst (λ (kids : List CallRow). Has kids kid) (ap (λ (c : CallView). c.kids) (only_one last) ∙ are) k))
 ]
 
+-- the same of a call over the views of its kids
+abbrev ClosedOver : List HierView → CallView → Type 0
+ClosedOver views own = (call : CallView) (kid : CallRow) → Has (flat_map calls_of views ++ own ∷ []) call → Has call.kids kid → Among (flat_map calls_of views ++ own ∷ []) kid
+
+abbrev Below : List Hier → Type 0
+Below hs = (call : CallView) (kid : CallRow) → Has (flat_map calls_of (map hier_view hs)) call → Has call.kids kid → Among (flat_map calls_of (map hier_view hs)) kid
+
+kids_below : (x : Hier-F Hier) (y : Hier-F Closed) → map-Hier Closed Hier (λ e. e.0) y ≡ x → Below (kids_in x)
+kids_below x y is = subst Below (sym (of_shared (λ (e : Closed). e.0) y.kids) ∙ ap kids_in is) (kids_closed (kids_in y))
+
+over_closed : (x : Hier-F Hier) → Below (kids_in x) → IsClosed (hier_level (map-Hier Hier HierView hier_view x))
+over_closed x below =
+    let own : CallView = call_level (map-Hier Hier HierView hier_view x) in
+    subst (λ views. ClosedOver views own) (sym (kid_views x)) (level_closed (kids_in x) own (ap (map own_of) (kid_views x)) below)
+
 closed : (h : Hier) → IsClosed (hier_view h)
-closed = ind-Hier (λ h. IsClosed (hier_view h)) (λ x y is.
-    subst IsClosed (sym (fold-roll-Hier HierView hier_level x))
-    (level_closed x.kids (call_level (map-Hier Hier HierView hier_view x)) refl
-    (subst (λ (z : Hier-F Hier). (call : CallView) (kid : CallRow) → Has (flat_map calls_of (map hier_view z.kids)) call → Has call.kids kid → Among (flat_map calls_of (map hier_view z.kids)) kid) is (kids_closed y.kids))))
+closed = ind-Hier (λ h. IsClosed (hier_view h)) (λ x y is. subst IsClosed (sym (fold-roll-Hier HierView hier_level x)) (over_closed x (kids_below x y is)))
 
 pub has_kids : (h : Hier) (call : CallView) (kid : CallRow) → Has (walk h) call → Has call.kids kid → (other : CallView) × Has (walk h) other × (other.own ≡ kid)
 has_kids h = closed h

@@ -1,5 +1,6 @@
 -- Hierarchies of elaborated calls over the entries of a database.
 use Rattle.std.specs.Prelude.{◌≡◌, ℕ, suc, ◌+◌, ◌<◌, ◌≤◌, ◌==◌, max, List, [], ◌∷◌, ◌++◌, fold, map, flat_map, sum_by, count_by, slice_get, Some}
+use Rattle.std.specs.Arc.{arc_value}
 use Rattle.hc_signal.specs.Member.{Has}
 use Rattle.hc_signal.specs.declared.signal.Instance.{Instance}
 use Rattle.hc_signal.specs.Graph.{Graph}
@@ -33,17 +34,21 @@ pub record HierView : Type 0 where
   pub calls : List CallView
   pub levels : ℕ
 
+-- what stands for the calls of the instances, each of which several calls may share
+abbrev pub kids_in : {X : Type 0} → Hier-F X → List X
+kids_in h = map arc_value h.kids
+
 abbrev pub row_level : Hier-F HierView → CallRow
 row_level h = record { name = h.name; entry = h.entry; masks = h.paths.masks; instances = h.instances; weight = h.weight; words = h.words }
 
 abbrev pub call_level : Hier-F HierView → CallView
-call_level h = record { own = row_level h; kids = map (λ k. k.own) h.kids }
+call_level h = record { own = row_level h; kids = map (λ k. k.own) (kids_in h) }
 
 abbrev pub hier_level : Hier-F HierView → HierView
 hier_level h = record {
   own = row_level h;
-  calls = flat_map (λ k. k.calls) h.kids ++ call_level h ∷ [];
-  levels = suc (fold (λ n k. max n k.levels) 0 h.kids);
+  calls = flat_map (λ k. k.calls) (kids_in h) ++ call_level h ∷ [];
+  levels = suc (fold (λ n k. max n k.levels) 0 (kids_in h));
 }
 
 abbrev pub hier_view : Hier → HierView

@@ -6,10 +6,11 @@ ghost use Rattle.hc_dbstate.specs.Elaboration.{CallRow, CallView, hier_view, wal
 use hc_canon::EntryId;
 use hc_fault::{ItemList, Name};
 use hc_paths::kinds::Paths;
+use std::sync::Arc;
 
 /// One elaborated call: the name that it requests for its module, its entry in the database, the paths of its circuit,
 /// the sums over its tree, itself counted, and the calls of its instances in the order of their lines, the unreached
-/// ones included. `weight` counts rows and statements; `words` counts words of memory.
+/// ones included. `weight` counts rows and statements; `words` counts words of memory. Equal calls may share a hierarchy.
 #[derive(Drop)]
 pub struct Hier {
     pub name: Name,
@@ -18,7 +19,7 @@ pub struct Hier {
     pub instances: u32,
     pub weight: u64,
     pub words: u64,
-    pub kids: ItemList<Hier>,
+    pub kids: ItemList<Arc<Hier>>,
 }
 
 /// The walk of a hierarchy ends with its own call, and has the calls of the instances of each call in it.

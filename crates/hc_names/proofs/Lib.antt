@@ -7,3 +7,4 @@ pub mod Steps
 pub mod Calls
 pub mod RowLaws
 pub mod Existing
+pub mod MarkLaws

@@ -20,18 +20,18 @@ use Rattle.hc_names.proofs.Members.{has_left, has_right, has_cases}
 -- ---- a row more
 
 -- the name of an entry in these rows, or else in one more
-abbrev or_else : Option (List ℕ) → Option (List ℕ) → Option (List ℕ)
+abbrev pub or_else : Option (List ℕ) → Option (List ℕ) → Option (List ℕ)
 or_else None b = b
 or_else (Some n) b = Some n
 
-abbrev in_row : NameRow → EntryId → Option (List ℕ)
+abbrev pub in_row : NameRow → EntryId → Option (List ℕ)
 in_row r id = cond (nat_eq id.0 r.0.0) (Some r.1) None
 
 or_else_cond : (b : Bool) (n : List ℕ) (x y : Option (List ℕ)) → cond b (Some n) (or_else x y) ≡ or_else (cond b (Some n) x) y
 or_else_cond true n x y = refl
 or_else_cond false n x y = refl
 
-name_after : (rows : List NameRow) (r : NameRow) (id : EntryId) → name_of_entry (rows ++ r ∷ []) id ≡ or_else (name_of_entry rows id) (in_row r id)
+pub name_after : (rows : List NameRow) (r : NameRow) (id : EntryId) → name_of_entry (rows ++ r ∷ []) id ≡ or_else (name_of_entry rows id) (in_row r id)
 name_after [] r id = refl
 name_after (x ∷ rows) r id = ap (cond (nat_eq id.0 x.0.0) (Some x.1)) (name_after rows r id) ∙ or_else_cond (nat_eq id.0 x.0.0) x.1 (name_of_entry rows id) (in_row r id)
 
@@ -66,7 +66,7 @@ pub record Fits (entries : List FormView) (bound : ℕ) (given : Given) (rows : 
 eq_is : (a b : ℕ) → nat_eq a b ≡ true → a ≡ b
 eq_is a b e = (Decides-eqb a b).0 e
 
-eq_self : (a : ℕ) → nat_eq a a ≡ true
+pub eq_self : (a : ℕ) → nat_eq a a ≡ true
 eq_self a = (Decides-eqb a a).1 refl
 
 id_is : (i j : EntryId) → nat_eq i.0 j.0 ≡ true → i ≡ j

@@ -1,6 +1,8 @@
 -- Names given call by call, to entries that have none yet.
-use Rattle.std.specs.Prelude.{◌≡◌, ℕ, ◌⊎◌, List, [], ◌∷◌, ◌++◌, map, Some, None}
+use Rattle.std.specs.Prelude.{◌≡◌, ℕ, ◌⊎◌, Bool, List, [], ◌∷◌, ◌++◌, map, Some, None, IsSome}
+use Rattle.hc_canon.specs.declared.form.EntryId.{EntryId}
 use Rattle.hc_dbstate.specs.Elaboration.{CallView}
+use Rattle.hc_dbstate.specs.Uses.{IsMarked}
 use Rattle.hc_names.specs.Mangling.{IsMangled}
 use Rattle.hc_names.specs.NameRows.{name_of_entry}
 use Rattle.hc_names.specs.Naming.{NameRow}
@@ -20,3 +22,7 @@ NamesTo rows (call ∷ calls) end =
 -- the entries of a hierarchy's calls, with the names that they request
 abbrev pub requests : List CallView → List NameRow
 requests calls = map (λ (c : CallView). (c.own.entry, c.own.name)) calls
+
+-- each marked entry has a row
+abbrev pub MarksNamed : List NameRow → List Bool → Type 0
+MarksNamed rows marks = (id : EntryId) → IsMarked marks id → IsSome (name_of_entry rows id)

@@ -4,7 +4,11 @@ use Rattle.hc_dbstate.specs.Elaboration.{walk}
 use Rattle.hc_names.specs.Naming.{NameRow}
 use Rattle.hc_names.specs.Steps.{NamesTo, requests}
 use Rattle.hc_names.proofs.RowLaws.{named_on, fits_none}
+use Rattle.hc_names.proofs.MarkLaws.{none_named}
 use Rattle.hc_names.proofs.naming.assign.Goals as goal
+
+pub name_calls-requires-clause-marks : goal.name_calls-requires-clause-marks
+name_calls-requires-clause-marks c = none_named _ _ _ c.in_ok-marks.ensures
 
 pub returns : goal.returns
 returns c =

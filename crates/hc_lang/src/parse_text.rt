@@ -6,6 +6,7 @@ ghost use Rattle.hc_lang.specs.Found.{Gives};
 ghost use Rattle.hc_lang.specs.Structure as s;
 ghost use Rattle.hc_lang.specs.TextReading as t;
 
+use crate::circuit_places::placed;
 use crate::names::{first_repeated, first_reserved};
 use crate::outline::{Block, Outline, Place};
 use crate::row::{NumberedLine, rows};
@@ -78,12 +79,12 @@ fn finished(alloc: Global, outline: Outline) -> Result<Design, TextStop>
     let Outline { circuits, place } = outline;
     match place {
         Place::Top(top) => Ok(Design {
-            circuits,
+            circuits: placed(alloc, circuits)?,
             top,
             bench: ItemList::new(alloc),
         }),
         Place::End { top, steps } => Ok(Design {
-            circuits,
+            circuits: placed(alloc, circuits)?,
             top,
             bench: steps,
         }),

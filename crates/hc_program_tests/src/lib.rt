@@ -10,6 +10,8 @@ mod elab;
 #[cfg(test)]
 mod faults;
 #[cfg(test)]
+mod hostile;
+#[cfg(test)]
 mod many;
 #[cfg(test)]
 mod operations;

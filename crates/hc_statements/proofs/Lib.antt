@@ -1,6 +1,7 @@
 pub mod Known
 pub mod HeadSteps
 pub mod Connected
+pub mod PortTables
 pub mod Instanced
 pub mod FormedSteps
 pub mod FormedRegisters

@@ -1,5 +1,6 @@
 pub mod Unrolled
 pub mod PortWidths
+pub mod PortPlaces
 pub mod Steps
 pub mod Registers
 pub mod Statements

@@ -1,5 +1,6 @@
 //! The statement `inst`.
 ghost use Rattle.std.specs.Prelude.{◌≡◌, ◌≤◌, ◌<◌, true, ◌++◌, ◌∷◌, [], None, Some, length, map, replicate, slice_get, IfErr, IfOk, OnOk};
+ghost use Rattle.std.specs.Option.{ForSome};
 ghost use Rattle.hc_signal.specs.Builds.{IsInstance, IsNode};
 ghost use Rattle.hc_signal.specs.Lawful.{ArePorts, HaveWidthsOf, HasWidth};
 ghost use Rattle.hc_signal.specs.declared.stop.BuildStop.TheVariants as stop;
@@ -7,6 +8,7 @@ ghost use Rattle.hc_unfold.specs.Gives.{Gives, Grows};
 ghost use Rattle.hc_unfold.specs.Names.{AreKnown};
 ghost use Rattle.hc_unfold.specs.Signals.{number};
 ghost use Rattle.hc_unfold.specs.Signals as written;
+ghost use Rattle.hc_statements.specs.PortPlaces.{ArePlaces};
 ghost use Rattle.hc_statements.specs.Connections.{FitPorts, FitsAt};
 ghost use Rattle.hc_statements.specs.Gives.{AreWidths, IsInside, Performs, PerformsInst};
 ghost use Rattle.hc_statements.specs.PortWidths.{port_widths};
@@ -15,15 +17,15 @@ ghost use Rattle.hc_statements.specs.declared.state.Elaborating.{Elaborating};
 ghost use Rattle.hc_statements.specs.Unrolled.{connection};
 ghost use Rattle.hc_statements.specs.Instances as spec;
 
-use crate::circuits::circuit_place;
 use crate::heads::{HeadStop, port_widths, ports};
 use crate::kinds::{Call, Child};
+use crate::port_places::{Places, place_in, places_of_many};
 use crate::state::{Elaborating, bind, is_new};
 use hc_fault::{FaultKind, Ident, ItemList, Name, NoMemory};
 use hc_lang::{CircuitText, Design, IdentText, Num, Sig};
 use hc_num::Env;
 use hc_signal::{BuildStop, Builder, InstId, NodeId, Port, Ports};
-use hc_unfold::{Key, Target, draw, has_room, key, numbers, port_place};
+use hc_unfold::{Key, Target, draw, has_room, key, numbers};
 use std::alloc::Global;
 
 /// Why an instance was not added: the first broken rule, on the line of the statement or on a line of the instance's
@@ -60,11 +62,17 @@ fn is_connected(done: &[Option<NodeId>], at: usize) -> bool
 }
 
 /// The place of the input of this name. F21 where there is none, F22 where it is connected.
-fn open_place(ins: &[Port], done: &[Option<NodeId>], name: &Name) -> Result<usize, BuildStop>
+fn open_place(
+    ins: &[Port],
+    places: &Option<Places>,
+    done: &[Option<NodeId>],
+    name: &Name,
+) -> Result<usize, BuildStop>
+    requires { ForSome places.now (λ table. ArePlaces ins.now table.entries) }
     ensures place { Gives (λ k. k) result (spec.open_place ins.now done.now name.now) }
     ensures within { IfOk result (λ k. k < length ins.now) }
 {
-    let Some(at) = port_place(ins, name) else {
+    let Some(at) = place_in(ins, places, name) else {
         return Err(BuildStop::Fault(FaultKind::UnknownPort));
     };
     if is_connected(done, at) {
@@ -91,10 +99,12 @@ fn connect(
     state: &mut Elaborating,
     env: &Env,
     ins: &[Port],
+    places: &Option<Places>,
     done: &mut [Option<NodeId>],
     conn: &(Name, Sig),
 ) -> Result<(), BuildStop>
     requires known { AreKnown state.old.graph state.old.names }
+    requires places { ForSome places.now (λ table. ArePlaces ins.now table.entries) }
     requires fit { FitPorts state.old.graph ins.now done.old }
     ensures done { Performs (λ _. (state.new, done.new)) result (spec.connect ins.now done.old (connection env.now conn.now) state.old) }
     ensures grows { OnOk result (Grows state.old.graph state.new.graph) }
@@ -102,7 +112,7 @@ fn connect(
     ensures fit { OnOk result (FitPorts state.new.graph ins.now done.new) }
 {
     let id = draw(alloc, &mut state.graph, &state.names, env, &conn.1)?;
-    let at = open_place(ins, done, &conn.0)?;
+    let at = open_place(ins, places, done, &conn.0)?;
     if !fits(&state.graph, ins, at, id) {
         return Err(BuildStop::Fault(FaultKind::WidthMismatch));
     }
@@ -117,10 +127,12 @@ fn connections(
     state: &mut Elaborating,
     env: &Env,
     ins: &[Port],
+    places: &Option<Places>,
     done: &mut [Option<NodeId>],
     conns: &[(Name, Sig)],
 ) -> Result<(), BuildStop>
     requires known { AreKnown state.old.graph state.old.names }
+    requires places { ForSome places.now (λ table. ArePlaces ins.now table.entries) }
     requires fit { FitPorts state.old.graph ins.now done.old }
     ensures done { Performs (λ _. (state.new, done.new)) result (spec.connections ins.now done.old (map (connection env.now) conns.now) state.old) }
     ensures grows { OnOk result (Grows state.old.graph state.new.graph) }
@@ -128,7 +140,7 @@ fn connections(
     ensures fit { OnOk result (FitPorts state.new.graph ins.now done.new) }
 {
     'conns: for conn in conns {
-        connect(alloc, state, env, ins, done, conn)?;
+        connect(alloc, state, env, ins, places, done, conn)?;
     }
     Ok(())
 }
@@ -166,17 +178,19 @@ fn connected_from(
     state: &mut Elaborating,
     env: &Env,
     ins: &[Port],
+    places: &Option<Places>,
     done: &mut [Option<NodeId>],
     conns: &[(Name, Sig)],
 ) -> Result<Vec<NodeId>, BuildStop>
     requires known { AreKnown state.old.graph state.old.names }
+    requires places { ForSome places.now (λ table. ArePlaces ins.now table.entries) }
     requires fit { FitPorts state.old.graph ins.now done.old }
     ensures done { Performs (λ ids. (state.new, ids.items)) result (spec.connected_from ins.now done.old (map (connection env.now) conns.now) state.old) }
     ensures grows { OnOk result (Grows state.old.graph state.new.graph) }
     ensures names { OnOk result (state.new.names ≡ state.old.names) }
     ensures widths { IfOk result (λ ids. HaveWidthsOf state.new.graph ids.items ins.now) }
 {
-    connections(alloc, state, env, ins, done, conns)?;
+    connections(alloc, state, env, ins, places, done, conns)?;
     let nodes = all_connected(alloc, done)?;
     Ok(nodes)
 }
@@ -197,7 +211,8 @@ fn connected(
     ensures widths { IfOk result (λ ids. HaveWidthsOf state.new.graph ids.items ins.now) }
 {
     let mut done = vec![in alloc; None; ins.len()]?;
-    connected_from(alloc, state, env, ins, done.as_mut_slice(), conns)
+    let places = places_of_many(alloc, ins)?;
+    connected_from(alloc, state, env, ins, &places, done.as_mut_slice(), conns)
 }
 
 /// The most ports of one instance. No text of a lawful length comes near it.
@@ -378,9 +393,8 @@ fn arguments(
 fn circuit_at<'a>(design: &'a Design, name: &Name) -> Result<(usize, &'a CircuitText), BuildStop>
     ensures { Gives (λ c. (c.0, c.1.now)) result (spec.circuit_at design.now (spec.circuit_place design.now.circuits name.now)) }
 {
-    let circuits = design.circuits.as_slice();
-    match circuit_place(circuits, name) {
-        Some(at) => Ok((at, &circuits[at])),
+    match design.circuits.place(name) {
+        Some(at) => Ok((at, &design.circuits.as_slice()[at])),
         None => Err(BuildStop::Fault(FaultKind::UnknownCircuit)),
     }
 }

@@ -9,6 +9,7 @@ mod instances;
 pub mod kinds;
 mod lines;
 mod plain;
+mod port_places;
 mod state;
 mod storage;
 mod taken;

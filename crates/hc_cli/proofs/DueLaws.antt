@@ -1,5 +1,5 @@
 -- What was prepared is what is due, and nothing else is due.
-use Rattle.std.proofs.Common.{ℕ, ◌≡◌, ◌≤◌, ◌<◌, ◌+◌, Bool, List, [], length, refl, sym, ap, ap₂, ◌∙◌, subst, arith, replicate}
+use Rattle.std.proofs.Common.{ℕ, ◌≡◌, ◌≤◌, ◌<◌, ◌+◌, Bool, true, false, if◌then◌else◌, List, [], length, refl, sym, ap, ap₂, ◌∙◌, subst, arith, replicate}
 use Rattle.std.proofs.lemmas.List.{length-replicate}
 use Rattle.std.specs.Prelude.{Option, Some, None, Result, Ok, Err, IfOk}
 use Rattle.std.proofs.lemmas.Result.{IfOk-weaker}
@@ -11,6 +11,7 @@ use Rattle.hc_fault.specs.declared.fault.Fault.{Fault}
 use Rattle.hc_fault.specs.declared.fault.FaultKind.{FaultKind}
 use Rattle.hc_fault.specs.declared.fault.FaultKind.TheVariants.{TooLong}
 use Rattle.hc_outside.specs.Moves.{Holds, LongerThan}
+use Rattle.hc_workload.specs.Workload.{workload}
 use Rattle.hc_words.specs.declared.job.Job.{Job}
 use Rattle.hc_words.specs.declared.job.Verb.{Verb}
 use Rattle.hc_words.specs.Jobs.{HasNoJob, IsJob}
@@ -32,11 +33,12 @@ use Rattle.hc_cli.specs.declared.prepared.Kept.{Kept}
 use Rattle.hc_cli.specs.declared.prepared.Prepared.{Prepared}
 use Rattle.hc_cli.specs.declared.prepared.Prepared.TheVariants as is
 use Rattle.hc_cli.specs.Clauses.{EndsInput}
-use Rattle.hc_cli.specs.Due.{Due, IsDesignDue, IsDue, IsTextDue, asked, bench_broken, broken, done, faulty, parsed, refusal, refused, text_fault, told, too_long, whole}
+use Rattle.hc_cli.specs.Due.{Due, IsDesignDue, IsDue, IsTextDue, asked, bench_broken, broken, done, faulty, parsed, reads_input, refusal, refused, text_fault, text_for, told, too_long, whole}
 use Rattle.hc_cli.specs.Histories.{HistoryRule, IsThis, no_history}
-use Rattle.hc_cli.specs.Read.{IsReadFrom}
+use Rattle.hc_cli.specs.Read.{IsReadFor, IsReadFrom, IsReadOf}
+use Rattle.hc_cli.specs.declared.read.Read.{Read}
 use Rattle.hc_cli.specs.declared.read.Read.TheVariants as reads
-use Rattle.hc_cli.specs.Prepared.{IsBenchToldOf, IsToldOf, Serves, ServesDesign, ServesInput, ServesLeft, ServesText, history_in}
+use Rattle.hc_cli.specs.Prepared.{IsBenchToldOf, IsToldOf, Serves, ServesDesign, ServesInput, ServesLeft, history_in}
 
 -- ---- what serves what is due
 
@@ -61,6 +63,29 @@ long_from n (Some text) f long due = (text, refl, due text long)
 
 pub long_read : (left : Option (List ℕ)) → LongerThan left 4194304 → IsReadFrom left (reads.Faulty (text_fault TooLong 0))
 long_read left long = long_from 4194304 left (text_fault TooLong 0) long (λ text more job. too_long more)
+
+-- ---- the text of a job
+
+-- a text that the source may have had left
+some_input : (left : Option (List ℕ)) → (input : List ℕ) × Holds left input
+some_input None = ([], tt)
+some_input (Some told) = (told, refl)
+
+text_read : (job : Job) (input : List ℕ) → reads_input job.verb ≡ true → text_for job input ≡ input
+text_read job input reads = ap (λ (b : Bool). if b then input else workload job.seed) reads
+
+text_generated : (job : Job) (input : List ℕ) → reads_input job.verb ≡ false → text_for job input ≡ workload job.seed
+text_generated job input none = ap (λ (b : Bool). if b then input else workload job.seed) none
+
+-- what was read of the input is read of the text of a job that reads
+pub read_for_input : (job : Job) (left : Option (List ℕ)) (r : Read) → reads_input job.verb ≡ true → IsReadFrom left r → IsReadFor job left r
+read_for_input job left r reads is = (is.0, is.1, subst (λ (text : List ℕ). IsReadOf text r) (sym (text_read job is.0 reads)) is.2)
+
+-- and what was read of the workload is read of that of a job that does not
+pub read_for_workload : (job : Job) (left : Option (List ℕ)) (r : Read) → reads_input job.verb ≡ false → IsReadOf (workload job.seed) r → IsReadFor job left r
+read_for_workload job left r none is =
+    let input = some_input left in
+    (input.0, input.1, subst (λ (text : List ℕ). IsReadOf text r) (sym (text_generated job input.0 none)) is)
 
 -- ---- elaborated designs
 
@@ -101,10 +126,10 @@ module _ (Rule : HistoryRule) (no_calls : Rule no_history []) where
   pub asked_left : (words : List (List ℕ)) (left : Option (List ℕ)) (job : Job) (p : Prepared) → IsJob words job → ServesInput Rule job left p → ServesLeft Rule words left p
   asked_left words left job p j s = (s.0, s.1, s.2, asked job j s.3, s.4)
 
-  pub told_input : (job : Job) (left : Option (List ℕ)) (f : Fault) → IsReadFrom left (reads.Faulty f) → ServesInput Rule job left (is.Told f)
+  pub told_input : (job : Job) (left : Option (List ℕ)) (f : Fault) → IsReadFor job left (reads.Faulty f) → ServesInput Rule job left (is.Told f)
   told_input job left f r = (r.0, told f [], r.1, r.2 job, serves_told f)
 
-  pub parsed_input : (job : Job) (left : Option (List ℕ)) (d : Design) (p : Prepared) → IsReadFrom left (reads.Parsed d) → ServesDesign Rule job d p → ServesInput Rule job left p
+  pub parsed_input : (job : Job) (left : Option (List ℕ)) (d : Design) (p : Prepared) → IsReadFor job left (reads.Parsed d) → ServesDesign Rule job d p → ServesInput Rule job left p
   parsed_input job left d p r s = (r.0, s.0, r.1, r.2 job s.0 s.1, s.2)
 
   pub serves_broken : (job : Job) (d : Design) (r : Refused) (result : Result Prepared NoMemory) → FaultIs (λ f. DesignElaborates d (Err f)) r → IfOk result (IsToldOf r) → IfOk result (ServesDesign Rule job d)
@@ -189,10 +214,10 @@ module _ (one_job : (words : List (List ℕ)) (a b : Job) → IsJob words a → 
       let same : d ≡ e = one_design text d e p.reads q.reads in
       design_once job e x y (subst (λ (d : Design). IsDesignDue job d x) same due) other
 
-  pub due_once : (words : List (List ℕ)) (text : List ℕ) (x y : Due) → IsDue words text x → IsDue words text y → x ≡ y
-  due_once words text x y (refused a) (refused b) = refl
-  due_once words text x y (refused a) (asked job j due) = absurd (a j.items j.spelling)
-  due_once words text x y (asked job j due) (refused b) = absurd (b j.items j.spelling)
-  due_once words text x y (asked job j due) (asked other k more) =
+  pub due_once : (words : List (List ℕ)) (input : List ℕ) (x y : Due) → IsDue words input x → IsDue words input y → x ≡ y
+  due_once words input x y (refused a) (refused b) = refl
+  due_once words input x y (refused a) (asked job j due) = absurd (a j.items j.spelling)
+  due_once words input x y (asked job j due) (refused b) = absurd (b j.items j.spelling)
+  due_once words input x y (asked job j due) (asked other k more) =
       let same : job ≡ other = one_job words job other j k in
-      text_once other text x y (subst (λ (g : Job). IsTextDue g text x) same due) more
+      text_once other (text_for other input) x y (subst (λ (g : Job). IsTextDue g (text_for g input) x) same due) more

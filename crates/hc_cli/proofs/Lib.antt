@@ -3,6 +3,6 @@ pub mod Parts
 pub mod Kept
 pub mod DueLaws
 pub mod SomeDue
-pub mod Served
 pub mod Ends
+pub mod Asked
 pub mod Orders

@@ -1,11 +1,11 @@
 -- The words of the top call's clauses.
-use Rattle.std.specs.Prelude.{ℕ, ◌≡◌, ◌≤◌, ◌⊎◌, List, Option, IfSome, length}
+use Rattle.std.specs.Prelude.{ℕ, ◌≡◌, ◌≤◌, ◌⊎◌, true, List, Option, IfSome, length}
 use Rattle.std.specs.Io.KnownBytes.{Appends, IsAtEnd}
 use Rattle.hc_outside.specs.Moves.{AppendsFront, Holds}
 use Rattle.hc_dbstate.specs.History.{History}
 use Rattle.hc_words.specs.declared.job.Job.{Job}
 use Rattle.hc_words.specs.Jobs.{IsJob}
-use Rattle.hc_cli.specs.Due.{Due, IsDue, limit}
+use Rattle.hc_cli.specs.Due.{Due, IsDue, limit, reads_input}
 use Rattle.hc_cli.specs.Histories.{HistoryRule}
 use Rattle.hc_cli.specs.declared.ending.Outcome.{Outcome}
 
@@ -17,9 +17,9 @@ history_of o = record { entries = o.entries.items; turns = o.turns.items }
 abbrev pub IsWritten : ℕ → Type 0
 IsWritten status = (status ≡ 0) ⊎ (status ≡ 1) ⊎ (status ≡ 2)
 
--- This holds of what is due for the words and the text that the source had left, or for some text where it tells none.
+-- This holds of what is due for the words and the input that the source had left, or for some input where it tells none.
 abbrev pub ForDue : List (List ℕ) → Option (List ℕ) → (Due → Type 0) → Type 0
-ForDue words left P = (text : List ℕ) × (d : Due) × Holds left text × IsDue words text d × P d
+ForDue words left P = (input : List ℕ) × (d : Due) × Holds left input × IsDue words input d × P d
 
 -- The status is the one that is due, the sink took exactly what is due, and the history is one, by the rule, of the calls that
 -- are due.
@@ -37,10 +37,20 @@ pub record IsCut (Rule : HistoryRule) (o : Outcome) (old new : Option (List ℕ)
 abbrev pub IsDueOrNoMemory : List (List ℕ) → Option (List ℕ) → ℕ → Type 0
 IsDueOrNoMemory words left status = (status ≡ 5) ⊎ ForDue words left (λ d. status ≡ d.status)
 
+-- ---- the source
+
+-- the words ask for a command that reads its input
+abbrev pub AskForInput : List (List ℕ) → Type 0
+AskForInput words = (job : Job) × IsJob words job × (reads_input job.verb ≡ true)
+
+-- what the source had left and its count of faults are as they were
+abbrev pub IsLeftAlone : Option (List ℕ) → Option (List ℕ) → ℕ → ℕ → Type 0
+IsLeftAlone old new before now = (new ≡ old) × (now ≡ before)
+
 -- what the source had left was read to its end, unless it is longer than the limit
 abbrev pub EndsInput : Option (List ℕ) → Option (List ℕ) → Type 0
 EndsInput old new = IfSome old (λ text. length text ≤ limit → IsAtEnd new)
 
--- and so it is for words that have a job
+-- and so it is for words that ask for it
 abbrev pub EndsRead : List (List ℕ) → Option (List ℕ) → Option (List ℕ) → Type 0
-EndsRead words old new = (job : Job) → IsJob words job → EndsInput old new
+EndsRead words old new = AskForInput words → EndsInput old new

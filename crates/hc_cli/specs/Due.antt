@@ -1,9 +1,12 @@
 -- What the program owes for words and an input: a status, the bytes to be written, and the calls whose history it hands out.
-use Rattle.std.specs.Prelude.{ℕ, ◌≡◌, ◌<◌, ◌≤◌, List, [], codes, length, None, Ok, Err}
+use Rattle.std.specs.Prelude.{ℕ, ◌≡◌, ◌<◌, ◌≤◌, Bool, true, false, if◌then◌else◌, List, [], codes, length, None, Ok, Err}
 use Rattle.hc_fault.specs.declared.fault.Fault.{Fault}
 use Rattle.hc_fault.specs.declared.fault.FaultKind.{FaultKind}
 use Rattle.hc_fault.specs.declared.fault.FaultKind.TheVariants.{TooLong}
+use Rattle.hc_workload.specs.Workload.{workload}
 use Rattle.hc_words.specs.declared.job.Job.{Job}
+use Rattle.hc_words.specs.declared.job.Verb.{Verb}
+use Rattle.hc_words.specs.declared.job.Verb.TheVariants as verb
 use Rattle.hc_words.specs.Jobs.{IsJob, HasNoJob}
 use Rattle.hc_lang.specs.declared.tree.Design.{Design}
 use Rattle.hc_lang.specs.Reads.{FirstFault, ParsesTo}
@@ -42,6 +45,20 @@ told f calls = record { status = 1; out = fault_line f; calls = calls }
 abbrev pub done : List ElaboratedCall → List ℕ → Due
 done calls out = record { status = 0; out = out; calls = calls }
 
+-- ---- the text of a job
+
+-- whether a command reads its input
+abbrev pub reads_input : Verb → Bool
+reads_input verb.Verilog = true
+reads_input verb.Sim = true
+reads_input verb.Both = true
+reads_input verb.Stat = true
+reads_input verb.Gen = false
+
+-- the input, or the workload of the job's seed where the command reads none
+abbrev pub text_for : Job → List ℕ → List ℕ
+text_for job input = if reads_input job.verb then input else workload job.seed
+
 -- ---- what is due
 
 -- a fault of a text, which has no path
@@ -62,7 +79,7 @@ pub data IsTextDue (job : Job) (text : List ℕ) : Due → Type 0 where
   faulty : (kind : FaultKind) (line : ℕ) → length text ≤ limit → FirstFault text kind line → IsTextDue job text (told (text_fault kind line) [])
   parsed : {due : Due} (d : Design) → length text ≤ limit → ParsesTo text d → IsDesignDue job d due → IsTextDue job text due
 
--- What is due for words and a text.
-pub data IsDue (words : List (List ℕ)) (text : List ℕ) : Due → Type 0 where
-  refused : HasNoJob words → IsDue words text refusal
-  asked : {due : Due} (job : Job) → IsJob words job → IsTextDue job text due → IsDue words text due
+-- What is due for words and an input.
+pub data IsDue (words : List (List ℕ)) (input : List ℕ) : Due → Type 0 where
+  refused : HasNoJob words → IsDue words input refusal
+  asked : {due : Due} (job : Job) → IsJob words job → IsTextDue job (text_for job input) due → IsDue words input due

@@ -10,7 +10,7 @@ use Rattle.hc_words.specs.declared.job.Job.{Job}
 use Rattle.hc_cli.specs.declared.prepared.Kept.{Kept}
 use Rattle.hc_cli.specs.declared.prepared.Prepared.{Prepared}
 use Rattle.hc_cli.specs.declared.prepared.Prepared.TheVariants as is
-use Rattle.hc_cli.specs.Due.{Due, IsDesignDue, IsDue, IsTextDue, refusal}
+use Rattle.hc_cli.specs.Due.{Due, IsDesignDue, IsDue, IsTextDue, refusal, text_for}
 use Rattle.hc_cli.specs.FaultLine.{fault_line}
 use Rattle.hc_cli.specs.Histories.{HistoryRule, no_history}
 
@@ -59,15 +59,12 @@ abbrev pub IsBenchToldOf : Refused → Kept → Prepared → Type 0
 IsBenchToldOf (refused.Fault f) k p = p ≡ is.BenchTold f k
 IsBenchToldOf refused.NoMemory k p = ⊥
 
--- this serves what is due for a design; for a text; for what a source had left, or some text where it tells none
+-- this serves what is due for a design; for a job and what a source had left, or some input where it tells none; for words
 abbrev pub ServesDesign : HistoryRule → Job → Design → Prepared → Type 0
 ServesDesign Rule job design p = (d : Due) × IsDesignDue job design d × Serves Rule p d
 
-abbrev pub ServesText : HistoryRule → Job → List ℕ → Prepared → Type 0
-ServesText Rule job text p = (d : Due) × IsTextDue job text d × Serves Rule p d
-
 abbrev pub ServesInput : HistoryRule → Job → Option (List ℕ) → Prepared → Type 0
-ServesInput Rule job left p = (text : List ℕ) × (d : Due) × Holds left text × IsTextDue job text d × Serves Rule p d
+ServesInput Rule job left p = (input : List ℕ) × (d : Due) × Holds left input × IsTextDue job (text_for job input) d × Serves Rule p d
 
 abbrev pub ServesLeft : HistoryRule → List (List ℕ) → Option (List ℕ) → Prepared → Type 0
-ServesLeft Rule words left p = (text : List ℕ) × (d : Due) × Holds left text × IsDue words text d × Serves Rule p d
+ServesLeft Rule words left p = (input : List ℕ) × (d : Due) × Holds left input × IsDue words input d × Serves Rule p d

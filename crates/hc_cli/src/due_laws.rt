@@ -1,4 +1,4 @@
-//! What is due for words and a text: something, and one thing alone.
+//! What is due for words and an input: something, and one thing alone.
 ghost use Rattle.std.specs.Prelude.{◌≡◌, ℕ, List};
 ghost use Rattle.hc_cli.specs.Due.{Due, IsDue};
 
@@ -12,9 +12,9 @@ use hc_summary::summaries_exist;
 use hc_traces::{benches_have_runs, runs_are_single};
 use hc_words::{one_job, words_are_decided};
 
-/// For each list of words and each text at most one status, one output and one list of calls are due.
+/// For each list of words and each input at most one status, one output and one list of calls are due.
 pub fn one_due()
-    ensures { (words : List (List ℕ)) (text : List ℕ) (d e : Due) → IsDue words text d → IsDue words text e → d ≡ e }
+    ensures { (words : List (List ℕ)) (input : List ℕ) (d e : Due) → IsDue words input d → IsDue words input e → d ≡ e }
 {
     one_job();
     texts_have_one_answer();
@@ -25,9 +25,9 @@ pub fn one_due()
     outputs_are_single();
 }
 
-/// For each list of words and each text something is due: it is refuted that nothing is.
+/// For each list of words and each input something is due: it is refuted that nothing is.
 pub fn something_is_due()
-    ensures { (words : List (List ℕ)) (text : List ℕ) → ((d : Due) → IsDue words text d → ⊥) → ⊥ }
+    ensures { (words : List (List ℕ)) (input : List ℕ) → ((d : Due) → IsDue words input d → ⊥) → ⊥ }
 {
     words_are_decided();
     texts_have_one_answer();

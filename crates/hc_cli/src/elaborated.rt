@@ -6,7 +6,6 @@ ghost use Rattle.hc_cli.specs.Histories.{IsThis};
 ghost use Rattle.hc_cli.specs.Prepared.{IsBenchToldOf, IsToldOf, ServesDesign};
 ghost use Rattle.hc_dbstate.specs.Elaboration.{IsElaboration, hier_view};
 ghost use Rattle.hc_dbstate.specs.Unfolding.{unfolding_of};
-ghost use Rattle.hc_output.specs.Output.{IsServed};
 ghost use Rattle.hc_plan.specs.Elaborates.{DesignElaborates, Elaborated};
 ghost use Rattle.hc_plan.specs.Hierarchies.{AreCalled, IsHierarchyFor};
 ghost use Rattle.hc_signal.specs.Tree.{graph};
@@ -63,8 +62,7 @@ pub(crate) fn prepare_elaborated(
     db: DbState,
     hier: &Hier,
 ) -> Result<Prepared, NoMemory>
-    requires elaboration { IsElaboration db.entries hier.now }
-    requires served { IsServed job.now.verb }
+    requires { IsElaboration db.entries hier.now }
     ensures { IfOk result (λ p. (e : Elaborated) → DesignElaborates design.now (Ok e) → IsHierarchyFor db.entries hier.now e → AreCalled db.entries hier.now → ServesDesign (IsThis db e.calls) job.now design.now p) }
 {
     elaborated_trees();

@@ -15,5 +15,6 @@ pub use due_laws::{one_due, something_is_due};
 pub use ending::Outcome;
 pub use fault_line::write_fault;
 pub use hc_words::{Job, Verb, WordStop, read_words};
+pub use hc_workload::generate;
 pub use many::run;
 pub use one::run_one;

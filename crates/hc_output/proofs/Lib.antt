@@ -1,3 +1,4 @@
+pub mod DigestLines
 pub mod Naming
 pub mod Outputs
 pub mod Runs

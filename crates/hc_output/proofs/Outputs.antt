@@ -1,5 +1,5 @@
 -- A command writes one output.
-use Rattle.std.proofs.Common.{◌≡◌, ℕ, Bool, true, false, List, ◌∷◌, ◌++◌, sym, ap, ◌∙◌}
+use Rattle.std.proofs.Common.{◌≡◌, ℕ, Bool, true, false, List, ◌∷◌, ◌++◌, sym, ap, ap₂, ◌∙◌}
 use Rattle.hc_words.specs.declared.job.Verb.{Verb}
 use Rattle.hc_words.specs.declared.job.Verb.TheVariants as verb
 use Rattle.hc_signal.specs.Tree.{Tree, IsWhole}
@@ -9,6 +9,7 @@ use Rattle.hc_names.specs.Naming.{NamedTree}
 use Rattle.hc_modules.specs.VerilogText.{IsVerilog}
 use Rattle.hc_flattext.specs.FlatText.{IsFlatText}
 use Rattle.hc_summary.specs.Summary.{IsSummary}
+use Rattle.hc_output.specs.Digests.{digest_lines}
 use Rattle.hc_output.specs.Output.{IsOutput, IsVerilogFor, listing_for, named_calls}
 
 module _ (one_text : (top : Tree) (calls : List NamedTree) (a b : List ℕ) → IsVerilog top calls a → IsVerilog top calls b → a ≡ b)
@@ -23,4 +24,5 @@ module _ (one_text : (top : Tree) (calls : List NamedTree) (a b : List ℕ) → 
   output_once verb.Sim flat title e rows a b whole x y = x ∙ sym y
   output_once verb.Both flat title e rows a b whole (s, x, p) (t, y, q) = p ∙ ap (λ (l : List ℕ). l ++ 10 ∷ listing_for e rows) (verilog_once flat title e s t whole x y) ∙ sym q
   output_once verb.Stat flat title e rows a b whole x y = one_summary e rows a b x y
-  output_once verb.Gen flat title e rows a b whole x y = absurd x
+  output_once verb.Gen flat title e rows a b whole (s, t, x, p, out) (r, u, y, q, other) =
+      out ∙ ap₂ (λ (l m : List ℕ). l ++ digest_lines m (listing_for e rows)) (one_summary e rows s r x y) (verilog_once flat title e t u whole p q) ∙ sym other

@@ -1,5 +1,5 @@
 -- Runs of an elaborated design, and of its flattened circuit.
-use Rattle.std.proofs.Common.{◌≡◌, ℕ, List, [], ◌∷◌, ◌++◌, append_assoc, map, refl, sym, ap, subst, ◌∙◌}
+use Rattle.std.proofs.Common.{◌≡◌, ℕ, List, [], ◌∷◌, ◌++◌, append_assoc, append-nil, codes, map, Bool, refl, sym, ap, subst, ◌∙◌}
 use Rattle.std.specs.Prelude.{Some, slice_get, Result, Ok, Err, IfOk}
 use Rattle.hc_signal.specs.declared.signal.Instance.{Instance}
 use Rattle.hc_signal.specs.declared.signal.Ports.{Ports}
@@ -23,8 +23,11 @@ use Rattle.hc_bench.specs.Steps.{AreStepsFor}
 use Rattle.hc_bench.specs.Trace.{IsRun, Trace}
 use Rattle.hc_plan.specs.Elaborates.{Elaborated}
 use Rattle.hc_plan.specs.Hierarchies.{IsHierarchyFor}
-use Rattle.hc_output.specs.Output.{listing_for}
-use Rattle.hc_output.specs.Prepared.{IsFlatOf}
+use Rattle.hc_words.specs.declared.job.Verb.TheVariants as verb
+use Rattle.hc_output.specs.Digests.{digest_lines, ended_line}
+use Rattle.hc_output.specs.Output.{IsOutput, listing_for}
+use Rattle.hc_output.specs.Prepared.{IsDigestedVerilog, IsFlatOf, written_listing}
+use Rattle.hc_output.specs.declared.kinds.ListingForm.TheVariants as form
 
 pub same_ports : (s t : Tree) → Same s t → (graph t).ports ≡ (graph s).ports
 same_ports none none e = refl
@@ -95,6 +98,23 @@ sim_listing items g e rows empty same = ap (λ (p : Ports). listing p.outputs ro
 pub both_listing : (text items : List ℕ) (g : Graph) (e : Elaborated) (rows : List CycleRow) → items ≡ text ++ 10 ∷ [] → g.ports ≡ (graph e.tree).ports → text ++ 10 ∷ listing_for e rows ≡ items ++ listing g.ports.outputs rows
 both_listing text items g e rows is same =
     ap (λ (p : Ports). text ++ 10 ∷ listing p.outputs rows) (sym same) ∙ sym (append_assoc text (10 ∷ []) (listing g.ports.outputs rows)) ∙ ap (λ (l : List ℕ). l ++ listing g.ports.outputs rows) (sym is)
+
+-- the lines of `gen`
+digests_joined : (summary a b : List ℕ) → summary ++ (a ++ (b ++ [])) ≡ (summary ++ a) ++ b
+digests_joined summary a b = simp (append_assoc, append-nil)
+
+-- the summary and the digest line of the Verilog, and after them the digest line of the listing
+pub gen_listing : (flat : Bool) (title : List ℕ) (items : List ℕ) (g : Graph) (e : Elaborated) (rows : List CycleRow) → IsDigestedVerilog flat title e rows items → g.ports ≡ (graph e.tree).ports
+    → (out : List ℕ) × IsOutput verb.Gen flat title e rows out × (out ≡ items ++ written_listing form.Digest (listing g.ports.outputs rows))
+gen_listing flat title items g e rows (summary, text, is, of, shown) same =
+    let listed : List ℕ = listing_for e rows in
+    let alike : listing g.ports.outputs rows ≡ listed = ap (λ (p : Ports). listing p.outputs rows) same in (
+      summary ++ digest_lines text listed,
+      (summary, text, is, of, refl),
+      digests_joined summary (ended_line (codes "verilog ") text) (ended_line (codes "rows ") listed)
+          ∙ ap (λ (l : List ℕ). l ++ ended_line (codes "rows ") listed) (sym shown)
+          ∙ ap (λ (l : List ℕ). items ++ ended_line (codes "rows ") l) (sym alike),
+    )
 
 -- ---- the flattened circuit
 

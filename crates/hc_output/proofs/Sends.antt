@@ -17,8 +17,9 @@ use Rattle.hc_bench.specs.Listing.{CycleRow, listing}
 use Rattle.hc_bench.specs.Playing.{IsPartListed}
 use Rattle.hc_bench.specs.Simulation.{State, IsInitialState, initial_inputs}
 use Rattle.hc_bench.specs.Trace.{IsAtStart, IsRun, IsSimulation, Simulation, Trace}
+use Rattle.hc_output.specs.declared.kinds.ListingForm.{ListingForm}
 use Rattle.hc_output.specs.declared.kinds.Played.{Played}
-use Rattle.hc_output.specs.Prepared.{IsListing, IsWithListing}
+use Rattle.hc_output.specs.Prepared.{IsListing, IsWithListing, written_listing}
 
 -- ---- results
 
@@ -57,6 +58,17 @@ pub front_of_both : (a b c : Option (List ℕ)) (text more : List ℕ) → Appen
 front_of_both a b c text more whole (rest, (front, is, some)) =
     (rest, (text ++ front, ap (λ l. text ++ l) is ∙ sym (append_assoc text front rest), Appends-trans a b c text front whole some))
 
+-- the second part in other words
+pub front_of_pair : {T E : Type 0} (r : Result T E) (a b : Option (List ℕ)) (text more other : List ℕ) → more ≡ other → OnErr r (AppendsFront a b (text ++ more)) → OnErr r (AppendsFront a b (text ++ other))
+front_of_pair r a b text more other e h = subst (λ (l : List ℕ). OnErr r (AppendsFront a b (text ++ l))) e h
+
+-- what is written of a listing, where its form is known
+pub written_ok : {T E : Type 0} (r : Result T E) (f known : ListingForm) (a b : Option (List ℕ)) (text rows : List ℕ) → f ≡ known → OnOk r (Appends a b (text ++ written_listing known rows)) → OnOk r (Appends a b (text ++ written_listing f rows))
+written_ok r f known a b text rows e h = subst (λ (x : ListingForm). OnOk r (Appends a b (text ++ written_listing x rows))) (sym e) h
+
+pub written_front : (f known : ListingForm) (a b : Option (List ℕ)) (text rows : List ℕ) → f ≡ known → AppendsFront a b (text ++ written_listing known rows) → AppendsFront a b (text ++ written_listing f rows)
+written_front f known a b text rows e h = subst (λ (x : ListingForm). AppendsFront a b (text ++ written_listing x rows)) (sym e) h
+
 -- ---- a run from the start
 
 abbrev SameAlike : Type 0
@@ -81,19 +93,19 @@ module _ (alike : SameAlike) (fronts : PartsAreFronts) where
       let taken : AppendsFront old new (listing ports.outputs rows) = fronts ports.outputs sim steps rows old new is (trace_of_run sim steps rows is begun here) part in
       subst (AppendsFront old new) (sym (out_is ∙ ap (λ (p : Ports). listing p.outputs rows) (sym same))) taken
 
--- ---- a text and the listing after it
+-- ---- a text, and what is written of the listing after it
 
-listing_after : (text : List ℕ) (o : Option Played) (p : Played) (out : List ℕ) → o ≡ Some p → IsWithListing text o out → (rest : List ℕ) × IsListing p rest × (out ≡ text ++ rest)
+listing_after : (text : List ℕ) (o : Option Played) (p : Played) (out : List ℕ) → o ≡ Some p → IsWithListing text o out → (rows : List ℕ) × IsListing p rows × (out ≡ text ++ written_listing p.form rows)
 listing_after text o p out some is = subst (λ (q : Option Played). IsWithListing text q out) some is
 
 pub sent_listing : {T E : Type 0} (r : Result T E) (sent text : List ℕ) (o : Option Played) (p : Played) (out : List ℕ) (old new : Option (List ℕ)) → sent ≡ text → o ≡ Some p → IsWithListing text o out
-    → ((rest : List ℕ) → IsListing p rest → OnOk r (Appends old new (sent ++ rest))) → OnOk r (Appends old new out)
+    → ((rows : List ℕ) → IsListing p rows → OnOk r (Appends old new (sent ++ written_listing p.form rows))) → OnOk r (Appends old new out)
 sent_listing r sent text o p out old new same some is all =
     let l = listing_after text o p out some is in
-    subst (λ (b : List ℕ). OnOk r (Appends old new b)) (ap (λ (t : List ℕ). t ++ l.0) same ∙ sym l.2) (all l.0 l.1)
+    subst (λ (b : List ℕ). OnOk r (Appends old new b)) (ap (λ (t : List ℕ). t ++ written_listing p.form l.0) same ∙ sym l.2) (all l.0 l.1)
 
-pub sent_listing_front : {T E : Type 0} (r : Result T E) (sent text : List ℕ) (o : Option Played) (p : Played) (out : List ℕ) (old new : Option (List ℕ)) → sent ≡ text → o ≡ Some p → IsWithListing text o out
-    → ((rest : List ℕ) → IsListing p rest → OnErr r (AppendsFront old new (sent ++ rest))) → OnErr r (AppendsFront old new out)
-sent_listing_front r sent text o p out old new same some is front =
+pub sent_listing_front : {T E : Type 0} (r : Result T E) (k : E) (sent text : List ℕ) (o : Option Played) (p : Played) (out : List ℕ) (old new : Option (List ℕ)) → sent ≡ text → o ≡ Some p → IsWithListing text o out
+    → ((rows : List ℕ) → IsListing p rows → IsErrOf r k → AppendsFront old new (sent ++ written_listing p.form rows)) → IsErrOf r k → AppendsFront old new out
+sent_listing_front r k sent text o p out old new same some is front of =
     let l = listing_after text o p out some is in
-    subst (λ (b : List ℕ). OnErr r (AppendsFront old new b)) (ap (λ (t : List ℕ). t ++ l.0) same ∙ sym l.2) (front l.0 l.1)
+    subst (AppendsFront old new) (ap (λ (t : List ℕ). t ++ written_listing p.form l.0) same ∙ sym l.2) (front l.0 l.1 of)

@@ -9,6 +9,7 @@ use Rattle.hc_names.specs.Naming.{NamedTree}
 use Rattle.hc_modules.specs.VerilogText.{IsVerilog}
 use Rattle.hc_flattext.specs.FlatText.{IsFlatText}
 use Rattle.hc_summary.specs.Summary.{IsSummary}
+use Rattle.hc_output.specs.Digests.{digest_lines}
 
 -- the calls with the names that they request
 abbrev pub named_calls : List ElaboratedCall → List NamedTree
@@ -23,15 +24,17 @@ IsVerilogFor true title e text = IsFlatText e.tree title text
 abbrev pub listing_for : Elaborated → List CycleRow → List ℕ
 listing_for e rows = listing (graph e.tree).ports.outputs rows
 
--- `gen` writes nothing yet: no list of words asks for it.
 abbrev pub IsOutput : Verb → Bool → List ℕ → Elaborated → List CycleRow → List ℕ → Type 0
 IsOutput verb.Verilog flat title e rows out = IsVerilogFor flat title e out
 IsOutput verb.Sim flat title e rows out = out ≡ listing_for e rows
 IsOutput verb.Both flat title e rows out = (text : List ℕ) × IsVerilogFor flat title e text × (out ≡ text ++ 10 ∷ listing_for e rows)
 IsOutput verb.Stat flat title e rows out = IsSummary e rows out
-IsOutput verb.Gen flat title e rows out = ⊥
+IsOutput verb.Gen flat title e rows out =
+    (summary : List ℕ) × (text : List ℕ) × IsSummary e rows summary × IsVerilogFor flat title e text
+    × (out ≡ summary ++ digest_lines text (listing_for e rows))
 
--- a command that is built
-abbrev pub IsServed : Verb → Type 0
-IsServed verb.Gen = ⊥
-IsServed other = Unit {0}
+-- a command that writes the summary
+abbrev pub HasSummary : Verb → Type 0
+HasSummary verb.Stat = Unit {0}
+HasSummary verb.Gen = Unit {0}
+HasSummary other = ⊥

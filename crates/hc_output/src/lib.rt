@@ -1,6 +1,7 @@
 //! What each command writes for an elaborated design: prepared with its memory, then written.
 #![tactic(auto)]
 
+mod digests;
 mod flat;
 mod flat_laws;
 mod kinds;
@@ -8,6 +9,7 @@ mod laws;
 mod make;
 mod modules;
 mod send;
+mod vec_sink;
 mod verilog_laws;
 
 pub use flat_laws::flat_texts_exist;

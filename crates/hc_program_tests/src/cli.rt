@@ -2,7 +2,7 @@ use hc_bits::OpKind;
 use hc_cli::run_one;
 use hc_ops::functions::{greatest, leading_zeros, least, popcount, reverse, saturating_sum};
 use hc_ops::{CombOp, OpTable};
-use hc_outside::{MemSink, MemSource};
+use hc_outside::{Failed, MemSink, MemSource, Source, read_all};
 use std::alloc::Global;
 use std::process::Abort;
 use std::test::Fail;
@@ -96,6 +96,15 @@ pub(crate) const DEEPER: &str =
 
 pub(crate) const DEEPER_LINE: &str =
     "F29 TooDeep line 4 path /b/v/u/u/u/u/u/u/u/u/u/u/u/u/u/u/u/u/u/u/u/u/u/u/u/u/u/u/u/u/u/u/u/u/u/u/u/u/u/u/u/u/u/u/u/u/u/u/u/u/u/u/u/u/u/u/u/u/u/u/u/u/u\n";
+
+const WORKLOAD_0: &str =
+    "instances 5461\nentries 29\nmodules 29\nweight 221170\nwords 0\ncycles 64\nverilog 16386 6548113323378600556\nrows 1718 12090323094012470521\n";
+
+pub(crate) const WORKLOAD_1: &str =
+    "instances 5461\nentries 33\nmodules 33\nweight 221170\nwords 0\ncycles 64\nverilog 18462 4795901074464886120\nrows 1718 14578946725786945232\n";
+
+const WORKLOAD_1_FLAT: &str =
+    "instances 5461\nentries 33\nmodules 33\nweight 221170\nwords 0\ncycles 64\nverilog 2538966 9908302887742958331\nrows 1718 14578946725786945232\n";
 
 /// The status and the bytes of a run, how many turns and entries were handed out.
 #[derive(Drop)]
@@ -252,6 +261,11 @@ fn benches_end_as_told(rt: HostRuntime) -> Result<(), Fail> {
             "instances 65536\nentries 3\nmodules 3\nweight 524284\nwords 0\ncycles 0\n",
         ),
         ("stat", OVERFULL, 1, "F30 TooManyInstances line 15 path /\n"),
+        // The text that is given is not read.
+        ("gen", TWO_WIDTHS, 0, WORKLOAD_0),
+        ("gen --seed 1", "", 0, WORKLOAD_1),
+        ("--flat --seed=1 gen", "", 0, WORKLOAD_1_FLAT),
+        ("gen --seed -1", "", 2, USAGE),
     ];
     for (words, text, status, written) in rows {
         let ran = run(&rt, rt.alloc(), words, text.as_bytes(), None, 2000)?;
@@ -284,6 +298,27 @@ fn ends_outside(rt: HostRuntime) -> Result<(), Fail> {
     assert!(rt;
         long.status == 1 && long.written.as_slice() == b"F1 TooLong line 0 path -\n".as_slice()
     );
+    Ok(())
+}
+
+#[test]
+fn refused_words_and_gen_leave_the_source_alone(rt: HostRuntime) -> Result<(), Fail> {
+    let alloc = rt.alloc();
+    for (line, status) in [("vhdl", 2), ("gen sim", 2), ("gen --seed 1", 0)] {
+        let words = words_of(alloc, line)?;
+        let text = Vec::from_slice(alloc, ADDER.as_bytes())?;
+        let failing = Vec::from_slice(alloc, &[0])?;
+        let mut source = MemSource::new(text, failing, 8);
+        let mut sink = sink_of(&rt, alloc, 1000);
+        let ops = operations(alloc)?;
+        let outcome = run_one(alloc, &words, &ops, &mut source, &mut sink);
+        assert_eq!(rt; outcome.status, status);
+        // The first call is still to come, and it fails.
+        let mut buf = [b'-'; 8];
+        assert_eq!(rt; source.read(&mut buf), Err(Failed));
+        let left = read_all(alloc, &mut source, 1000)?;
+        assert_eq!(rt; left.as_slice(), ADDER.as_bytes());
+    }
     Ok(())
 }
 

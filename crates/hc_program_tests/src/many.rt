@@ -1,6 +1,6 @@
 use crate::cli::{
-    ADDER, DEEPER, DEEPER_LINE, FIRST_IN_ORDER, FULL, MUX, NO_PORT, Ran, SHARED, TREE, operations,
-    run, sink_of, words_of,
+    ADDER, DEEPER, DEEPER_LINE, FIRST_IN_ORDER, FULL, MUX, NO_PORT, Ran, SHARED, TREE, WORKLOAD_1,
+    operations, run, sink_of, words_of,
 };
 use hc_cli::Outcome;
 use hc_outside::MemSource;
@@ -154,6 +154,7 @@ fn many_workers_end_as_one(rt: HostRuntime) -> Result<(), Fail> {
         ("both", MUX),
         ("sim", NO_PORT),
         ("vhdl", TREE),
+        ("gen --seed 7", TREE),
     ];
     for (word, text) in rows {
         let alone = run(&rt, rt.alloc(), word, text.as_bytes(), None, 100_000)?;
@@ -196,6 +197,8 @@ fn many_workers_end_as_told(rt: HostRuntime) -> Result<(), Fail> {
             1,
             1,
         ),
+        ("gen --seed 1 --workers 1", TREE, 0, WORKLOAD_1, 33, 33),
+        ("gen --seed 1 --workers 8", TREE, 0, WORKLOAD_1, 33, 33),
     ];
     for (line, text, status, wanted, turns, entries) in rows {
         let (outcome, written) = run_many(&rt, rt.alloc(), line, text, &NoGate)?;

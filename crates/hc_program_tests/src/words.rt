@@ -11,24 +11,24 @@ fn words(alloc: Global, list: &[&str]) -> Result<Vec<String>, AllocError> {
     Ok(words)
 }
 
-/// Lists of words, each with the command, the number of workers and the flag of its job, or none where it is refused.
-const CASES: [(&[&str], Option<(Verb, u32, bool)>); 25] = [
-    (&["verilog"], Some((Verb::Verilog, 1, false))),
-    (&["sim"], Some((Verb::Sim, 1, false))),
-    (&["both"], Some((Verb::Both, 1, false))),
-    (&["stat"], Some((Verb::Stat, 1, false))),
+/// Lists of words, each with the command, the number of workers, the flag and the seed of its job, or none where it is refused.
+const CASES: [(&[&str], Option<(Verb, u32, bool, u64)>); 31] = [
+    (&["verilog"], Some((Verb::Verilog, 1, false, 0))),
+    (&["sim"], Some((Verb::Sim, 1, false, 0))),
+    (&["both"], Some((Verb::Both, 1, false, 0))),
+    (&["stat"], Some((Verb::Stat, 1, false, 0))),
     (
         &["verilog", "--workers=64"],
-        Some((Verb::Verilog, 64, false)),
+        Some((Verb::Verilog, 64, false, 0)),
     ),
     (
         &["--workers", "08", "verilog"],
-        Some((Verb::Verilog, 8, false)),
+        Some((Verb::Verilog, 8, false, 0)),
     ),
-    (&["--flat", "verilog"], Some((Verb::Verilog, 1, true))),
+    (&["--flat", "verilog"], Some((Verb::Verilog, 1, true, 0))),
     (
         &["verilog", "--flat", "--workers", "8"],
-        Some((Verb::Verilog, 8, true)),
+        Some((Verb::Verilog, 8, true, 0)),
     ),
     (&["sim", "--flat", "--flat"], None),
     (&["--flat"], None),
@@ -39,9 +39,24 @@ const CASES: [(&[&str], Option<(Verb, u32, bool)>); 25] = [
     (&["verilog", "--workers"], None),
     (&["verilog", "--workers", "--flat"], None),
     (&["--workers", "2", "verilog", "--workers=2"], None),
-    (&["verilog", "--seed", "0"], Some((Verb::Verilog, 1, false))),
+    (
+        &["verilog", "--seed", "5"],
+        Some((Verb::Verilog, 1, false, 5)),
+    ),
     (&["verilog", "sim"], None),
-    (&["gen"], None),
+    (&["gen"], Some((Verb::Gen, 1, false, 0))),
+    (
+        &["--seed", "007", "--flat", "gen", "--workers=64"],
+        Some((Verb::Gen, 64, true, 7)),
+    ),
+    (
+        &["gen", "--seed=18446744073709551615"],
+        Some((Verb::Gen, 1, false, u64::MAX)),
+    ),
+    (&["gen", "--seed=18446744073709551616"], None),
+    (&["gen", "--seed", "-1"], None),
+    (&["gen", "--seed"], None),
+    (&["gen", "--seed", "1", "--seed=1"], None),
     (&["--", "verilog"], None),
     (&["--help"], None),
     (&["build"], None),
@@ -54,11 +69,11 @@ fn words_are_read_as_told(rt: HostRuntime) -> Result<(), Fail> {
     for (list, job) in &CASES {
         let list = words(rt.alloc(), *list)?;
         let told = match *job {
-            Some((verb, workers, flat)) => Ok(Job {
+            Some((verb, workers, flat, seed)) => Ok(Job {
                 verb,
                 workers,
                 flat,
-                seed: 0,
+                seed,
             }),
             None => Err(WordStop::Words),
         };

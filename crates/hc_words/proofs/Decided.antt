@@ -1,16 +1,15 @@
--- Words have a job, of a command that the program has, or none.
+-- Words have a job or none.
 use Rattle.std.proofs.Common.{ℕ, ◌≡◌, ◌≤◌, ◌⊎◌, inl, inr, Bool, true, false, ◌||◌, nat_le, leb-true, subst, List, [], ◌∷◌, map, codes, refl, sym, ap, ◌∙◌, true≢false}
 use Rattle.std.specs.Prelude.{Some, unwrap_or}
 use Rattle.std.specs.List.{list_any}
 use Rattle.std.specs.Str.{bytes_eq}
 use Rattle.std.specs.Str.Parse.{digits_value}
 use Rattle.std.proofs.lemmas.Slice.Eq.{bytes_eq-Decides}
-use Rattle.hc_words.specs.Items.{IsSpelledBy, Item, Text, commands, is_about, is_between, is_command, is_decimal, name_of, seed, text_at, workers}
+use Rattle.hc_words.specs.Items.{IsSpelledBy, Item, Text, commands, is_about, is_between, is_command, greatest, is_decimal, least, name_of, seed, text_at, workers}
 use Rattle.hc_words.specs.Jobs.{HasNoJob, IsJob, number_of}
 use Rattle.hc_words.specs.Form.{nothing_seen, passes}
 use Rattle.hc_words.specs.declared.job.Job.{Job}
 use Rattle.hc_words.specs.declared.job.Verb.{Verb}
-use Rattle.hc_words.specs.declared.job.Verb.TheVariants as verb
 use Rattle.hc_words.proofs.FormLaw.{no_job, spelled_by}
 use Rattle.clap.proofs.WalkLemmas.{both}
 use Rattle.hc_words.proofs.Law.{verb_lawful, workers_lawful}
@@ -40,15 +39,7 @@ words_decided words = by (passes nothing_seen words) refl
     by true e = (let s : (xs : List Item) × IsSpelledBy words xs = spelled_by words e in inr (spelled_job words s.0 s.1))
     by false e = inl (no_job words e)
 
-pub no_gen : (words : List Text) (job : Job) → IsJob words job → job.verb ≡ verb.Gen → ⊥
-no_gen words job is e =
-    let v : (v : Text) × (text_at (codes "command") is.items ≡ Some v) × (is_command v ≡ true) = verb_lawful is.items is.spelling.lawful is.spelling.has_command in
-    let one : text_at (codes "command") is.items ≡ Some v.0 = v.1 in
-    let two : text_at (codes "command") is.items ≡ Some (codes "gen") = is.verb ∙ ap (λ w. Some (name_of w)) e in
-    let same : v.0 ≡ codes "gen" = cc in
-    true≢false (sym (sym (ap is_command same) ∙ v.2))
-
-between : (n : Text) → is_between 1 64 n ≡ true → (1 ≤ digits_value 10 n) × (digits_value 10 n ≤ 64)
+between : (n : Text) → is_between (least workers) (greatest workers) n ≡ true → (1 ≤ digits_value 10 n) × (digits_value 10 n ≤ 64)
 between n e =
     let range = both (nat_le 1 (digits_value 10 n)) (nat_le (digits_value 10 n) 64) (both (is_decimal n) _ e).1 in
     (leb-true _ _ range.0, leb-true _ _ range.1)

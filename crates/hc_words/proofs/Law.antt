@@ -19,7 +19,8 @@ use Rattle.clap.proofs.OnLiterals.{clap_on_literals}
 use Rattle.clap.proofs.WalkLemmas.{both, find-map, list_any-map}
 use Rattle.clap.proofs.TakesLemmas.{leaf_takes}
 use Rattle.hc_words.specs.Items.{Item, Text, are_lawful, clashes, is_about, command, command_names, id_of, is_between, is_command, is_lawful, item_at, flat, joined, split, spelled, spelled_all, text_at, value_of, NumberOption, workers, seed, option_name, least, greatest}
-use Rattle.hc_words.proofs.Steps.{flat_step, Settles, Steps, app, at, at_fresh, command_step, filled_command, filled_option, joined_step, row, rules_in, shape_in, simple, split_step}
+use Rattle.hc_words.specs.Rules.{app}
+use Rattle.hc_words.proofs.Steps.{flat_step, Settles, Steps, at, at_fresh, command_step, filled_command, filled_option, joined_step, row, rules_in, shape_in, simple, split_step}
 
 abbrev Names : Type 0
 Names = Bor (List (Bor Text))

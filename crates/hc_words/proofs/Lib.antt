@@ -4,3 +4,4 @@ pub mod Numbers
 pub mod Steps
 pub mod OneJob
 pub mod Decided
+pub mod Taken

@@ -5,7 +5,7 @@ use Rattle.std.proofs.lemmas.Str.Parse.{digit_from_value}
 use Rattle.std.specs.Str.{bytes_eq}
 use Rattle.std.specs.Char.{digit_value}
 use Rattle.clap.specs.Walk.{Held, Row, Rule, Step, Waiting, Walk, after_step, at_row, idle, is_pending, long_or_other, option, plain_word, short_or_plain, subcommand_or_other, trailing, more_values, used, settled, settled_rows, reacted, walked, with_values, without, pushed, has_row}
-use Rattle.clap.specs.Simple.{App, Shape, built, new_app, on_top, with_rule, is_simple}
+use Rattle.clap.specs.Simple.{Shape, built, is_simple}
 use Rattle.clap.specs.Lexer.{long_of, long_of_rest, short_of, short_of_rest, strip_byte}
 use Rattle.std.specs.Option.{option_map_or}
 use Rattle.clap.specs.Takes.{bundle_passes, flag_word_passes, other_passes, step_passes, turn_passes, settle_passes, use_passes, value_passes, walk_passes}
@@ -14,21 +14,8 @@ use Rattle.clap.specs.declared.parser.matches.ValueSource.TheVariants.{CommandLi
 use Rattle.clap.specs.declared.builder.value_parser.ValueParser.TheVariants as vp
 use Rattle.clap.specs.declared.builder.action.ArgAction.TheVariants.{Set}
 use Rattle.clap.proofs.OnLiterals.{clap_on_literals}
-use Rattle.hc_words.specs.Rules.{command_rule, flat_rule, option_rule}
+use Rattle.hc_words.specs.Rules.{app, command_rule, flat_rule, seed_rule, workers_rule}
 use Rattle.hc_words.specs.Items.{Item, Text, command, NumberOption, flat, joined, split, workers, seed, option_name, id_of, spelled, value_of}
-
-abbrev pub workers_rule : Rule
-workers_rule = option_rule (codes "workers") (vp.Unsigned 1 64) (codes "1")
-
-abbrev pub seed_rule : Rule
-seed_rule = option_rule (codes "seed") (vp.Unsigned 0 18446744073709551615) (codes "0")
-
-abbrev pub app : Bor (List (Bor Text)) → App
-app names = with_rule
-    (with_rule
-    (with_rule
-    (with_rule (on_top (λ s. record s { no_binary_name = true }) (new_app (codes "hardcaml"))) (command_rule names))
-    workers_rule) seed_rule) flat_rule
 
 abbrev pub rules_in : Bor (List (Bor Text)) → List Rule
 rules_in names = (built (app names)).top.rules

@@ -2,7 +2,7 @@
 use Rattle.std.specs.Prelude.{ℕ, Bool, true, false, not, ◌&&◌, ◌||◌, List, [], ◌∷◌, codes, drop, take, if◌then◌else◌, length, Option, Some, None}
 use Rattle.std.specs.Option.{option_map_or}
 use Rattle.std.specs.Str.{bytes_eq}
-use Rattle.hc_words.specs.Items.{Text, is_between, is_command}
+use Rattle.hc_words.specs.Items.{Text, greatest, is_between, is_command, least, seed, workers}
 use Rattle.hc_words.specs.declared.form.Awaits.{Awaits}
 use Rattle.hc_words.specs.declared.form.Awaits.TheVariants as awaits
 use Rattle.hc_words.specs.declared.form.Seen.{Seen}
@@ -25,12 +25,12 @@ command_word seen word =
 
 abbrev pub joined_seed : Seen → Text → Option Text → Option Seen
 joined_seed seen word (Some number) =
-    if seen.seed || not (is_between 0 18446744073709551615 number) then None else Some (record seen { seed = true })
+    if seen.seed || not (is_between (least seed) (greatest seed) number) then None else Some (record seen { seed = true })
 joined_seed seen word None = command_word seen word
 
 abbrev pub joined_word : Seen → Text → Option Text → Option Seen
 joined_word seen word (Some number) =
-    if seen.workers || not (is_between 1 64 number) then None else Some (record seen { workers = true })
+    if seen.workers || not (is_between (least workers) (greatest workers) number) then None else Some (record seen { workers = true })
 joined_word seen word None = joined_seed seen word (joined_number (codes "--seed=") word)
 
 abbrev pub item_word : Seen → Text → Option Seen
@@ -45,8 +45,8 @@ item_word seen word =
 
 abbrev pub stepped_at : Awaits → Seen → Text → Option Seen
 stepped_at awaits.Nothing seen word = item_word seen word
-stepped_at awaits.Workers seen word = awaited 1 64 seen word
-stepped_at awaits.Seed seen word = awaited 0 18446744073709551615 seen word
+stepped_at awaits.Workers seen word = awaited (least workers) (greatest workers) seen word
+stepped_at awaits.Seed seen word = awaited (least seed) (greatest seed) seen word
 
 abbrev pub stepped : Seen → Text → Option Seen
 stepped seen word = stepped_at seen.awaits seen word

@@ -20,9 +20,8 @@ name_of verb.Both = codes "both"
 name_of verb.Stat = codes "stat"
 name_of verb.Gen = codes "gen"
 
--- those that the program has
 abbrev pub commands : List Verb
-commands = verb.Verilog ∷ verb.Sim ∷ verb.Both ∷ verb.Stat ∷ []
+commands = verb.Verilog ∷ verb.Sim ∷ verb.Both ∷ verb.Stat ∷ verb.Gen ∷ []
 
 abbrev pub command_names : List Text
 command_names = map name_of commands

@@ -56,7 +56,7 @@ fn is_between(text: &str, low: u64, high: u64) -> bool
 fn is_command(word: &str) -> bool
     ensures { result ≡ is_command_text word.now }
 {
-    word == "verilog" || word == "sim" || word == "both" || word == "stat"
+    matches!(word, "verilog" | "sim" | "both" | "stat" | "gen")
 }
 
 /// What follows a prefix of a word.

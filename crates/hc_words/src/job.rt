@@ -1,18 +1,18 @@
 //! The parse by clap, and the job that its matches give.
 ghost use Rattle.std.specs.Prelude.{◌≡◌, ℕ, List, map, string_bytes, option_map, codes, Some, false, true, IfOk, IfErr, IsErrAnd};
 ghost use Rattle.std.specs.Str.Parse.{digits_value};
-ghost use Rattle.clap.specs.Words.{first_value, found_of, kind_of, one_text, rule_of};
+ghost use Rattle.clap.specs.Words.{app_of, first_value, found_of, kind_of, matches_of, one_text, rule_of, takes};
 ghost use Rattle.clap.specs.declared.builder.value_parser.ValueParser.TheVariants as vp;
 ghost use Rattle.hc_words.specs.Items.{is_command, name_of};
 ghost use Rattle.hc_words.specs.Jobs.{HasNoJob, IsJob};
-ghost use Rattle.hc_words.specs.Rules.{IsCommandRule, flat_rule, option_rule};
-ghost use Rattle.hc_words.specs.Reads.{AreLawful, HasForm, ReadsItems};
+ghost use Rattle.hc_words.specs.Rules.{IsCommandRule, IsProgram, flat_rule, option_rule};
+ghost use Rattle.hc_words.specs.Reads.{AreLawful, HasForm, HasJob, ReadsItems};
 
 use crate::form::has_form;
 use clap::builder::ValueParser;
 use clap::error::ErrorKind;
 use clap::{Arg, ArgAction, ArgMatches, Command, Error};
-use std::alloc::Global;
+use std::alloc::{AllocError, Global};
 
 /// What is to be done with the design.
 #[derive(Clone, Copy, Debug, PartialEq, Eq, Drop)]
@@ -24,7 +24,7 @@ pub enum Verb {
     Gen,
 }
 
-/// What the words ask for. An option that is absent has its default: 1 worker, not flat, seed 0.
+/// What the words ask for, with 1 to 64 workers. An option that is absent has its default: 1 worker, not flat, seed 0.
 #[derive(Clone, Copy, Debug, PartialEq, Eq, Drop)]
 pub struct Job {
     pub verb: Verb,
@@ -42,7 +42,7 @@ pub enum WordStop {
     NoMemory,
 }
 
-static COMMANDS: [&str; 4] = ["verilog", "sim", "both", "stat"];
+static COMMANDS: [&str; 5] = ["verilog", "sim", "both", "stat", "gen"];
 
 fn workers_parser<'a>() -> ValueParser<'a>
     ensures { result ≡ vp.Unsigned 1 64 }
@@ -84,11 +84,12 @@ fn flat_arg<'a>(alloc: Global) -> Arg<'a>
         .action(ArgAction::SetTrue)
 }
 
-/// The matches of words that have the form.
-fn parsed<'a>(alloc: Global, words: &'a [String]) -> Result<ArgMatches<'a>, Error>
-    requires { HasForm (map string_bytes words.now) }
-    ensures ok { IfOk result (ReadsItems (map string_bytes words.now)) }
-    ensures err { IfErr result (λ e. kind_of e ≡ ErrorKind.OutOfMemory) }
+/// The command of the program as clap has it. By clap's own definition it takes each list of words that asks for a job, and
+/// its matches have the values of the job.
+pub fn clap_command<'a>(alloc: Global) -> Result<Command<'a>, AllocError>
+    ensures program { IfOk result (λ c. IsProgram (app_of c)) }
+    ensures takes { IfOk result (λ c. (words : List (List ℕ)) (job : Job) → IsJob words job → takes (app_of c) words ≡ true) }
+    ensures values { IfOk result (λ c. (words : List (List ℕ)) (job : Job) → IsJob words job → HasJob (matches_of (app_of c) words) job) }
 {
     let command = command_arg(alloc);
     let workers = option_arg(alloc, "workers", workers_parser(), "1");
@@ -100,6 +101,16 @@ fn parsed<'a>(alloc: Global, words: &'a [String]) -> Result<ArgMatches<'a>, Erro
         .arg(workers)?
         .arg(seed)?
         .arg(flat)?;
+    Ok(program)
+}
+
+/// The matches of words that have the form.
+fn parsed<'a>(alloc: Global, words: &'a [String]) -> Result<ArgMatches<'a>, Error>
+    requires { HasForm (map string_bytes words.now) }
+    ensures ok { IfOk result (ReadsItems (map string_bytes words.now)) }
+    ensures err { IfErr result (λ e. kind_of e ≡ ErrorKind.OutOfMemory) }
+{
+    let program = clap_command(alloc)?;
     program.try_get_matches_from(words)
 }
 
@@ -113,6 +124,7 @@ fn verb_of(name: &str) -> Option<Verb>
         "sim" => Some(Verb::Sim),
         "both" => Some(Verb::Both),
         "stat" => Some(Verb::Stat),
+        "gen" => Some(Verb::Gen),
         _ => None,
     }
 }

@@ -5,5 +5,5 @@ mod form;
 mod job;
 mod word_laws;
 
-pub use job::{Job, Verb, WordStop, one_job, read_words};
+pub use job::{Job, Verb, WordStop, clap_command, one_job, read_words};
 pub use word_laws::words_are_decided;

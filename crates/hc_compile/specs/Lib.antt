@@ -1,6 +1,5 @@
-pub mod Plan
-pub mod Tables
-pub mod Needs
-pub mod Crossing
-pub mod Views
-pub mod Compiled
+pub use Rattle.hc_steps.specs.Plan
+pub use Rattle.hc_steps.specs.Tables
+pub use Rattle.hc_steps.specs.Crossing
+pub use Rattle.hc_steps.specs.Views
+pub use Rattle.hc_steps.specs.Compiled

@@ -1,23 +1,20 @@
 //! The plans of all entries that an entry uses.
 ghost use Rattle.std.specs.Prelude.{◌≡◌, ◌<◌, true, Some, length, slice_get, IfOk, IfSome};
 ghost use Rattle.hc_canon.specs.FormView.{FormView};
-ghost use Rattle.hc_compile.specs.Compiled.{AreCompiled, AreMarkedCompiled, AreNoted, IsPlanned};
+ghost use Rattle.hc_steps.specs.Compiled.{AreCompiled, AreMarkedCompiled, AreNoted, IsPlanned};
 ghost use Rattle.hc_dbstate.specs.Uses.{IsMarked};
 
-use crate::check::is_plan;
-use crate::compiled::Plan;
-use crate::draft::{draft, no_hints, no_plan};
 use crate::masks::{
     Masks, Splits, coarse_of, every_of, kid_masks, masks_at, masks_of_all, splits_of_all,
 };
-use crate::needs::{Moves, flag_at};
-use crate::noted::are_noted;
-use crate::site::Site;
 use hc_canon::EntryId;
 use hc_dbstate::{DbState, is_marked, used_entries};
+use hc_draft::{Moves, draft_plan, flag_at, no_plan};
 use hc_fault::NoMemory;
 use hc_paths::kinds::Paths;
 use hc_paths::make::local_order;
+use hc_stepcheck::{Site, are_noted, is_compiled};
+use hc_steps::Plan;
 use std::alloc::Global;
 
 /// The masks by which an entry is compiled.
@@ -62,7 +59,7 @@ fn draft_entry(
     let own = wanted(alloc, db, id, masks, splits)?;
     match local_order(alloc, form.circuit(), kids.as_slice()) {
         Err(_) => Err(NoMemory),
-        Ok(order) => draft(
+        Ok(order) => draft_plan(
             alloc,
             db,
             form,
@@ -119,14 +116,13 @@ fn is_planned(alloc: Global, db: &DbState, plans: &[Plan], id: EntryId) -> Resul
         return Ok(false);
     };
     let form = db.get(id);
-    let mut hints = no_hints(alloc, form.circuit(), plan)?;
     let site = Site {
         db,
         plans,
         form,
         plan,
     };
-    Ok(is_plan(&site, &mut hints))
+    is_compiled(alloc, &site)
 }
 
 /// Whether an entry has its plan at its place, if it is marked.

@@ -1,11 +1,12 @@
 //! The masks of used entries, and which are run output by output. Nothing rests on it: plans are checked.
-use crate::needs::{all_of, flag_at};
 use hc_canon::{EntryId, Form};
 use hc_dbstate::{DbState, is_marked};
+use hc_draft::flag_at;
 use hc_fault::{ItemList, NoMemory};
 use hc_paths::kinds::{PathStop, Paths};
 use hc_paths::make::paths;
 use hc_signal::Circuit;
+use hc_steps::all_of;
 use std::alloc::Global;
 
 /// Of each entry its masks; its coarse masks, no input or all, where its instances have coarse masks if there is an order

@@ -85,10 +85,10 @@ own_has x k e = subst (λ z. IsBitSet (own_bit z) k) (sym e) (from_bit (2 ^ k) k
 
 -- the masks along an order
 module _ (g : Graph) (masks : List (List ℕ)) where
-  abbrev Reaches : ℕ → ℕ → Type 0
+  abbrev pub Reaches : ℕ → ℕ → Type 0
   Reaches n k = (m : ℕ) × NodeAt g m (Input k) × LocalPath g masks n m
 
-  abbrev IsRight : List ℕ → NodeId → Type 0
+  abbrev pub IsRight : List ℕ → NodeId → Type 0
   IsRight list n = (k : ℕ) → IsBitSet (slice_index_or list n.0 0) k ↔ Reaches n.0 k
 
   own_reaches : (n : ℕ) (k : ℕ) (o : Option NodeRow) → slice_get g.nodes n ≡ o → IsBitSet (own_bit_of o) k → NodeAt g n (Input k)
@@ -120,7 +120,7 @@ module _ (g : Graph) (masks : List (List ℕ)) where
   filled_length [] = length-replicate (length g.nodes) 0
   filled_length (n ∷ ns) = length-set (filled g masks ns) n.0 (mask_from g masks (filled g masks ns) n.0) ∙ filled_length ns
 
-  filled_right : (ns : List NodeId) → IsSorted (local_fanin g masks) ns → ((id : NodeId) → Has ns id → id.0 < length g.nodes) → AllDifferent ns → (n : NodeId) → Has ns n → IsRight (filled g masks ns) n
+  pub filled_right : (ns : List NodeId) → IsSorted (local_fanin g masks) ns → ((id : NodeId) → Has ns id → id.0 < length g.nodes) → AllDifferent ns → (n : NodeId) → Has ns n → IsRight (filled g masks ns) n
   filled_right [] s i d n h = elim h [ ]
   filled_right (x ∷ ns) s i d n h =
       let below : (m : NodeId) → Has ns m → IsRight (filled g masks ns) m = filled_right ns s.1 (λ m q. i m (later q)) d.1 in

@@ -2,12 +2,12 @@
 //! an order in which nodes can be computed.
 #![tactic(auto)]
 
-mod fanin;
+pub mod fanin;
 pub mod kinds;
 mod laws;
 mod local;
 pub mod make;
-mod masks;
+pub mod masks;
 mod pile;
 mod reached;
 mod search;

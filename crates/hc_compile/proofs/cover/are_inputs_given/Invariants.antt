@@ -1,6 +1,0 @@
-use Rattle.std.proofs.Common.{ℕ, ◌<◌}
-use Rattle.hc_compile.specs.Plan.{IsGiven, passed}
-use Rattle.hc_compile.proofs.cover.are_inputs_given.Given as goal
-
-abbrev pub invariant-ports : goal.invariant-ports
-invariant-ports l = (k : ℕ) → k < l.port → IsGiven l.site.plan.now.parts (passed l.it.0 k)

@@ -1,8 +1,0 @@
-use Rattle.hc_compile.proofs.CrossingPlans.{child_is, parent_is}
-use Rattle.hc_compile.proofs.laws.crossings_have_plans.Goals as goal
-
-pub returns : goal.returns
-returns c = record {
-  child = child_is;
-  parent = parent_is;
-}

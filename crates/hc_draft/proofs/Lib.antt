@@ -1,0 +1,3 @@
+mod Sweep
+mod NeedsLaws
+mod Smaller

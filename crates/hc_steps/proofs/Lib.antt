@@ -1,0 +1,4 @@
+pub mod Bits
+pub mod Lists
+mod CrossingPlans
+pub mod Pushed

@@ -1,0 +1,5 @@
+pub mod Plan
+pub mod Tables
+pub mod Crossing
+pub mod Views
+pub mod Compiled

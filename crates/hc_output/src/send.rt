@@ -103,7 +103,8 @@ fn send_pair<K: Sink>(first: &[u8], second: &[u8], to: &mut K) -> Result<(), Fai
     write_all(to, second)
 }
 
-/// Writes a text and then the digest line of the listing of a run from the start. The run ends before the first byte is written.
+/// Writes a text and then the digest line of the listing of a run from the start. The run ends before the first byte is
+/// written.
 fn send_digested<S: Sim, K: Sink>(
     alloc: Global,
     sim: &mut S,
@@ -147,8 +148,8 @@ fn send_played<S: Sim, K: Sink>(
     }
 }
 
-/// Writes what was prepared: its text, and then what is to be written of the listing of its run. It fails where the sink's count of faults rose,
-/// and a front was written then; or for want of memory, before anything was written.
+/// Writes what was prepared: its text, and then what is to be written of the listing of its run. It fails where the sink's
+/// count of faults rose, and a front was written then; or for want of memory, before anything was written.
 pub fn write_output<K: Sink>(
     alloc: Global,
     ops: &OpTable,

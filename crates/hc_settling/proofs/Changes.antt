@@ -7,7 +7,7 @@ use Rattle.hc_signal.specs.declared.signal.Node.TheVariants.{Input, Wire, Const,
 use Rattle.hc_signal.specs.Tree.{Tree}
 use Rattle.hc_signal.specs.Occurrences.{Occurrence, graph_at, NodeIs, IsReachedPath}
 use Rattle.hc_bench.specs.Simulation.{State, value, value_at}
-use Rattle.hc_compile.specs.Plan.{Step, make, take, pass, run, Part, steps_at, IsPlain}
+use Rattle.hc_steps.specs.Plan.{Step, make, take, pass, run, Part, steps_at, IsPlain}
 use Rattle.hc_settling.specs.Known.{ArePlans, IsBalanced, AreMarked}
 use Rattle.hc_settling.specs.Tables.{IsSameState}
 use Rattle.hc_settling.proofs.Steps.{same_node}

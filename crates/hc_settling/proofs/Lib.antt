@@ -9,3 +9,5 @@ pub mod Changes
 pub mod Told
 pub mod Settles
 pub mod Tops
+pub mod Present
+pub mod Entries

@@ -10,9 +10,9 @@ use Rattle.hc_signal.specs.Tree.{Tree}
 use Rattle.hc_signal.specs.Occurrences.{Occurrence, graph_at, NodeIs, IsReachedPath, IsReachedOccurrence, connection, CombStep, inside, down, up}
 use Rattle.hc_bench.specs.Simulation.{State, value, optional_value}
 use Rattle.hc_settling.proofs.Agrees.{value_agrees}
-use Rattle.hc_compile.specs.Plan.{Step, make, take, pass, run, Part, steps_at, made, fact, facts, IsPlain, id_of}
+use Rattle.hc_steps.specs.Plan.{Step, make, take, pass, run, Part, steps_at, made, fact, facts, IsPlain, id_of}
 use Rattle.hc_settling.specs.Known.{at_path, ArePlans, IsBalanced, AreMarked}
-use Rattle.hc_compile.specs.Tables.{Reads, by_make, by_pass, Takes, by_take}
+use Rattle.hc_steps.specs.Tables.{Reads, by_make, by_pass, Takes, by_take}
 use Rattle.hc_settling.proofs.Steps.{same_node}
 use Rattle.hc_settling.proofs.Meant.{IsMeant, meant_at}
 

@@ -9,7 +9,7 @@ use Rattle.hc_signal.specs.Graph.{Graph, node, inst, Reached}
 use Rattle.hc_signal.specs.Lawful.{NodeAt}
 use Rattle.hc_signal.specs.Tree.{Tree}
 use Rattle.hc_signal.specs.Occurrences.{graph_at, IsReachedPath, connection}
-use Rattle.hc_compile.specs.Plan.{Step, make, take, pass, run, Part, steps_at, Fact, fact, Begins, IsPlain, IsReady, AreReady, id_of}
+use Rattle.hc_steps.specs.Plan.{Step, make, take, pass, run, Part, steps_at, Fact, fact, Begins, IsPlain, IsReady, AreReady, id_of}
 use Rattle.hc_settling.specs.Known.{ArePlans}
 
 abbrev pub IsMeant : Graph → (ℕ → Graph) → Step → Type 0

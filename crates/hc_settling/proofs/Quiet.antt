@@ -15,7 +15,7 @@ use Rattle.hc_bits.specs.BitVector.{BitVector}
 use Rattle.hc_bench.specs.Simulation.{State, value, IsSettled}
 use Rattle.hc_paths.proofs.Composed.{step_reached}
 use Rattle.hc_walk.proofs.Members.{has_map, has_slice}
-use Rattle.hc_compile.specs.Plan.{Step, make, take, pass, run, Part, steps_at, Fact, made, passed, ran, fact, facts, Begins, constant, input, before, NeedsInput, IsBefore, IsPlain, IsReady, AreReady, id_of}
+use Rattle.hc_steps.specs.Plan.{Step, make, take, pass, run, Part, steps_at, Fact, made, passed, ran, fact, facts, Begins, constant, input, before, NeedsInput, IsBefore, IsPlain, IsReady, AreReady, id_of}
 use Rattle.hc_settling.specs.Known.{at_path, ArePlans, IsRight, IsKnown, is_made, is_passed, is_run, IsBalanced, IsStill, still, KeepsConstants}
 use Rattle.hc_settling.proofs.Steps.{make_right, take_right, pass_right}
 

@@ -9,9 +9,9 @@ use Rattle.hc_signal.specs.Tree.{Tree, none, tree, graph, IsWhole}
 use Rattle.hc_signal.specs.Lawful.{IsLawful}
 use Rattle.hc_signal.specs.Occurrences.{Occurrence, tree_at, graph_at, NodeIs, IsReachedPath, IsReachedOccurrence, connection}
 use Rattle.hc_bench.specs.Simulation.{State, value, IsSettled}
-use Rattle.hc_compile.specs.Plan.{Step, make, take, run, Part, steps_at, Fact, made, passed, ran, fact, facts, Begins, AreReady, id_of}
+use Rattle.hc_steps.specs.Plan.{Step, make, take, run, Part, steps_at, Fact, made, passed, ran, fact, facts, Begins, AreReady, id_of}
 use Rattle.hc_settling.specs.Known.{at_path, ArePlans, IsRight, IsKnown, is_made, is_passed, is_run, AreMarked, KeepsConstants}
-use Rattle.hc_compile.specs.Tables.{Tables, row}
+use Rattle.hc_steps.specs.Tables.{Tables, row}
 use Rattle.hc_settling.specs.Tables.{AreTablesOf}
 use Rattle.hc_settling.specs.Settling.{Board, IsClosed, IsWoken, IsPut, kept, put, computed, Walks, stop, makes, takes, passes, skips, runs, IsCalled, IsSound}
 use Rattle.hc_settling.proofs.Agrees.{whole_at}

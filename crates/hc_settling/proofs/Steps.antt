@@ -13,7 +13,7 @@ use Rattle.hc_signal.specs.Tree.{Tree}
 use Rattle.hc_signal.specs.Occurrences.{Occurrence, graph_at, NodeIs, IsReachedOccurrence, comb_fanin, connection, CombStep, inside, down, up}
 use Rattle.hc_bench.specs.Simulation.{State, value, optional_value, IsSettled}
 use Rattle.hc_settling.proofs.Agrees.{value_agrees}
-use Rattle.hc_compile.specs.Plan.{IsPlain, id_of}
+use Rattle.hc_steps.specs.Plan.{IsPlain, id_of}
 use Rattle.hc_settling.specs.Known.{at_path}
 
 -- a node is one

@@ -3,7 +3,7 @@ use Rattle.std.proofs.Common.{ℕ, List, ◌∷◌, ◌∙◌}
 use Rattle.hc_signal.specs.Tree.{Tree}
 use Rattle.hc_signal.specs.Occurrences.{Occurrence, graph_at, IsReachedPath}
 use Rattle.hc_bench.specs.Simulation.{State, IsSettled}
-use Rattle.hc_compile.specs.Plan.{Step, make, take, pass, run, Part, Fact, made, passed, ran, fact, IsReady}
+use Rattle.hc_steps.specs.Plan.{Step, make, take, pass, run, Part, Fact, made, passed, ran, fact, IsReady}
 use Rattle.hc_settling.specs.Known.{IsKnown, is_made, is_passed, is_run, KeepsConstants, IsTaken}
 use Rattle.hc_settling.proofs.Quiet.{begins, made_right, taken_right, passed_right}
 

@@ -11,9 +11,9 @@ use Rattle.hc_signal.specs.Tree.{Tree, none, tree, graph, IsWhole}
 use Rattle.hc_signal.specs.Occurrences.{Occurrence, tree_at, graph_at, NodeIs, IsReachedPath, IsReachedOccurrence, connection}
 use Rattle.hc_bench.specs.Simulation.{State}
 use Rattle.hc_paths.proofs.Searching.{same_or_not}
-use Rattle.hc_compile.specs.Plan.{Step, make, take, pass, run, Part, steps_at, Fact, made, passed, ran, fact, facts, IsPlain, id_of}
+use Rattle.hc_steps.specs.Plan.{Step, make, take, pass, run, Part, steps_at, Fact, made, passed, ran, fact, facts, IsPlain, id_of}
 use Rattle.hc_settling.specs.Known.{at_path, ArePlans, AreMarked}
-use Rattle.hc_compile.specs.Tables.{Reads, Takes, by_take, Tables, row}
+use Rattle.hc_steps.specs.Tables.{Reads, Takes, by_take, Tables, row}
 use Rattle.hc_settling.specs.Tables.{AreTablesOf}
 use Rattle.hc_settling.proofs.Agrees.{whole_at}
 use Rattle.hc_settling.proofs.Steps.{same_node}

@@ -7,9 +7,9 @@ use Rattle.hc_signal.specs.declared.signal.Node.TheVariants.{Input}
 use Rattle.hc_signal.specs.Tree.{Tree, IsWhole}
 use Rattle.hc_signal.specs.Occurrences.{Occurrence, tree_at, graph_at, NodeIs, IsReachedOccurrence}
 use Rattle.hc_bench.specs.Simulation.{State, value, IsSettled}
-use Rattle.hc_compile.specs.Plan.{Step, Part, steps_at, Fact, facts, Begins, constant, input, before}
+use Rattle.hc_steps.specs.Plan.{Step, Part, steps_at, Fact, facts, Begins, constant, input, before}
 use Rattle.hc_settling.specs.Known.{at_path, ArePlans, IsRight, IsKnown, is_made, AreMarked, KeepsConstants, KeepsInputs}
-use Rattle.hc_compile.specs.Tables.{Tables}
+use Rattle.hc_steps.specs.Tables.{Tables}
 use Rattle.hc_settling.specs.Tables.{AreTablesOf}
 use Rattle.hc_settling.specs.Settling.{Board, IsCalled, IsSound, Settles, over, rests, works}
 use Rattle.hc_settling.proofs.Agrees.{row_in, whole_at}

@@ -13,7 +13,7 @@ use Rattle.hc_signal.specs.Occurrences.{Occurrence, tree_at, graph_at, row_at, I
 use Rattle.hc_bench.specs.Simulation.{State, value, optional_value, IsSettled}
 use Rattle.hc_paths.proofs.Composed.{step_reached}
 use Rattle.hc_settling.proofs.Agrees.{value_agrees, whole_at}
-use Rattle.hc_compile.specs.Plan.{Step, make, take, pass, run, Part, steps_at, Fact, made, passed, ran, facts, HasStep}
+use Rattle.hc_steps.specs.Plan.{Step, make, take, pass, run, Part, steps_at, Fact, made, passed, ran, facts, HasStep}
 use Rattle.hc_settling.specs.Known.{at_path, ArePlans, IsKnown, IsBalanced, IsStill, still, AreMarked, KeepsConstants, KeepsInputs}
 use Rattle.hc_settling.proofs.Meant.{IsMeant, meant_at}
 use Rattle.hc_settling.proofs.Quiet.{known_made, known_passed, known_run, constant_right}

@@ -7,7 +7,7 @@ use Rattle.hc_signal.specs.Tree.{Tree}
 use Rattle.hc_signal.specs.Occurrences.{Occurrence, graph_at, NodeIs, IsReachedPath, IsReachedOccurrence}
 use Rattle.hc_bits.specs.BitVector.{BitVector}
 use Rattle.hc_bench.specs.Simulation.{State, value}
-use Rattle.hc_compile.specs.Plan.{Step, make, take, pass, run, Part, steps_at, Fact, made, passed, ran, facts, Begins, IsPlan}
+use Rattle.hc_steps.specs.Plan.{Step, make, take, pass, run, Part, steps_at, Fact, made, passed, ran, facts, Begins, IsPlan}
 
 abbrev pub at_path : List ℕ → ℕ → Occurrence
 at_path p n = record { path = p; node = n }

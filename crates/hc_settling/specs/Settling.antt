@@ -6,9 +6,9 @@ use Rattle.hc_signal.specs.declared.signal.Node.TheVariants.{Input}
 use Rattle.hc_signal.specs.Tree.{Tree}
 use Rattle.hc_signal.specs.Occurrences.{Occurrence, graph_at, NodeIs, IsReachedPath}
 use Rattle.hc_bench.specs.Simulation.{State, value}
-use Rattle.hc_compile.specs.Plan.{Step, make, take, pass, run, Part, steps_at, Fact}
+use Rattle.hc_steps.specs.Plan.{Step, make, take, pass, run, Part, steps_at, Fact}
 use Rattle.hc_settling.specs.Known.{at_path, IsRight, IsKnown, AreMarked, KeepsConstants}
-use Rattle.hc_compile.specs.Tables.{Tables, row}
+use Rattle.hc_steps.specs.Tables.{Tables, row}
 
 -- the kept numbers and the marks
 pub record Board : Type 0 where

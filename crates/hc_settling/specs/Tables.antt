@@ -5,8 +5,8 @@ use Rattle.hc_signal.specs.declared.signal.Node.TheVariants.{Reg, Read}
 use Rattle.hc_signal.specs.Tree.{Tree}
 use Rattle.hc_signal.specs.Occurrences.{graph_at, IsReachedPath}
 use Rattle.hc_bench.specs.Simulation.{State, register_value, memory_words}
-use Rattle.hc_compile.specs.Plan.{Part}
-use Rattle.hc_compile.specs.Tables.{Tables, AreTables}
+use Rattle.hc_steps.specs.Plan.{Part}
+use Rattle.hc_steps.specs.Tables.{Tables, AreTables}
 use Rattle.hc_settling.specs.Known.{at_path}
 
 -- what the number of a node says of the state is the same in both

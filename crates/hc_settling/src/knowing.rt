@@ -4,7 +4,7 @@ ghost use Rattle.hc_signal.specs.Member.{Has};
 ghost use Rattle.hc_signal.specs.Occurrences.{Occurrence, IsReachedPath, graph_at};
 ghost use Rattle.hc_signal.specs.Tree.{IsWhole, Tree};
 ghost use Rattle.hc_settling.specs.Known.{AreMarked, ArePlans, IsBalanced, IsKnown, IsRight, IsStill, IsTaken, KeepsConstants, KeepsInputs};
-ghost use Rattle.hc_compile.specs.Plan.{Begins, Fact, IsReady, Part, Step, fact, facts, steps_at};
+ghost use Rattle.hc_steps.specs.Plan.{Begins, Fact, IsReady, Part, Step, fact, facts, steps_at};
 
 /// A part that is not marked is still, and a still part is right where what it needs is known.
 pub fn unmarked_parts_are_right()

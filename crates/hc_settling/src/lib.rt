@@ -2,10 +2,12 @@
 //! the parts that are.
 #![tactic(auto)]
 
+mod compiled;
 mod knowing;
 mod marking;
 mod walking;
 
+pub use compiled::{compiled_entries_plan_their_unfolding, unfoldings_are_of_entries};
 pub use knowing::{known_tops_settle, steps_make_known, unmarked_parts_are_right};
 pub use marking::{changes_keep_marks, puts_keep_marks, tables_name_all_readers};
 pub use walking::{settlings_settle, walks_are_sound};

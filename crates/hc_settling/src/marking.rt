@@ -7,9 +7,9 @@ ghost use Rattle.hc_signal.specs.declared.signal.Node.{Node};
 ghost use Rattle.hc_signal.specs.declared.signal.Node.TheVariants.{Input};
 ghost use Rattle.hc_signal.specs.Tree.{IsWhole, Tree};
 ghost use Rattle.hc_settling.specs.Known.{at_path, AreMarked, ArePlans};
-ghost use Rattle.hc_compile.specs.Tables.{row, Reads, Tables, Takes};
+ghost use Rattle.hc_steps.specs.Tables.{row, Reads, Tables, Takes};
 ghost use Rattle.hc_settling.specs.Tables.{AreTablesOf, IsSameState};
-ghost use Rattle.hc_compile.specs.Plan.{Part, facts, made, make, pass, run, steps_at};
+ghost use Rattle.hc_steps.specs.Plan.{Part, facts, made, make, pass, run, steps_at};
 
 /// The marks stay right where a number is put, if the parts that compute it, read it, take it from outside or pass to it are
 /// stale. Parts that pass an input which is not its connection are stale. More parts may be marked, if those that run them

@@ -3,10 +3,10 @@ ghost use Rattle.hc_bench.specs.Simulation.{State, IsSettled};
 ghost use Rattle.hc_signal.specs.Occurrences.{Occurrence, IsReachedPath, graph_at};
 ghost use Rattle.hc_signal.specs.Tree.{IsWhole, Tree};
 ghost use Rattle.hc_settling.specs.Known.{AreMarked, ArePlans, IsKnown, KeepsConstants, KeepsInputs};
-ghost use Rattle.hc_compile.specs.Tables.{Tables};
+ghost use Rattle.hc_steps.specs.Tables.{Tables};
 ghost use Rattle.hc_settling.specs.Tables.{AreTablesOf};
 ghost use Rattle.hc_settling.specs.Settling.{Board, IsCalled, IsSound, Settles, Walks};
-ghost use Rattle.hc_compile.specs.Plan.{Begins, Fact, Part, facts, steps_at};
+ghost use Rattle.hc_steps.specs.Plan.{Begins, Fact, Part, facts, steps_at};
 
 /// A walk along a stale part of an instance keeps the marks right and right numbers right, and makes all facts of the part
 /// known, where what the part needs is known.

@@ -1,7 +1,7 @@
 use Rattle.std.proofs.Common.{◌∷◌, subst}
 use Rattle.hc_signal.specs.Occurrences.{IsReachedPath}
 use Rattle.hc_signal.specs.Member.{Has}
-use Rattle.hc_compile.specs.Plan.{made, facts, steps_at}
+use Rattle.hc_steps.specs.Plan.{made, facts, steps_at}
 use Rattle.hc_settling.specs.Known.{at_path}
 use Rattle.hc_settling.proofs.Told.{made_no_input, told_own, told_readers, told_takers, told_inputs, input_not_taken, passers_of}
 use Rattle.hc_settling.proofs.Marks.{marks_stay}

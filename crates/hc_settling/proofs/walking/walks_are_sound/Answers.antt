@@ -1,6 +1,6 @@
 use Rattle.std.proofs.Common.{[]}
 use Rattle.hc_signal.specs.Occurrences.{graph_at}
-use Rattle.hc_compile.specs.Plan.{Begins}
+use Rattle.hc_steps.specs.Plan.{Begins}
 use Rattle.hc_settling.proofs.Settles.{walk_sound}
 use Rattle.hc_settling.proofs.walking.walks_are_sound.Goals as goal
 

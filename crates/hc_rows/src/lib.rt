@@ -1,0 +1,6 @@
+//! Rows of items in one flat list.
+#![tactic(auto)]
+
+mod rows;
+
+pub use rows::Rows;

@@ -1,0 +1,4 @@
+pub mod Marks
+pub mod Given
+pub mod Stored
+pub mod Scene

@@ -1,0 +1,11 @@
+pub mod Shapes
+pub mod Changes
+pub mod Computing
+pub mod Operations
+pub mod Places
+pub mod Arms
+pub mod Made
+pub mod Written
+pub mod WordWidths
+pub mod Standing
+pub mod Edged

@@ -31,10 +31,12 @@ pub width_of_port : (all ps : List Port) (place : ℕ) (p : Port) → ps ≡ all
 width_of_port all ps place p same widths within = subst HaveWidths (sym same) widths (get_or ps place p) (has_get_or ps place p within)
 
 -- an input that is there takes the value that it has
-pub set_is : (all ps : List Port) (name : List ℕ) (value : BenchValue) (place : ℕ) (p : Port) (r : Option BitVector) → ps ≡ all → Some place ≡ input_place name ps → place < length ps → p ≡ get_or ps place p → r ≡ value_in (get_or ps place p).width value → step_to place r ≡ set_at all value (input_place name all)
+pub set_is : (all ps : List Port) (name : List ℕ) (value : BenchValue) (place : ℕ) (p : Port) (r : Option BitVector) → ps ≡ all → Some place ≡ input_place name ps
+    → place < length ps → p ≡ get_or ps place p → r ≡ value_in (get_or ps place p).width value → step_to place r ≡ set_at all value (input_place name all)
 set_is all ps name value place p r same at within item e =
     let there : slice_get ps place ≡ Some p = slice_get_read ps (length ps) place p refl within item in
-    ap (step_to place) (e ∙ ap (λ (q : Port). value_in q.width value) (sym item)) ∙ sym (ap (set_port place value) there) ∙ ap (set_at ps value) at ∙ ap (λ (l : List Port). set_at l value (input_place name l)) same
+    ap (step_to place) (e ∙ ap (λ (q : Port). value_in q.width value) (sym item)) ∙ sym (ap (set_port place value) there) ∙ ap (set_at ps value) at
+    ∙ ap (λ (l : List Port). set_at l value (input_place name l)) same
 
 -- ---- all lines
 
@@ -126,7 +128,8 @@ one_step : (inputs : List Port) (s : Step) (steps : List Step) → IsStepFor inp
 one_step inputs s steps is all zero step at = let same : s ≡ step = cc in subst (IsStepFor inputs) same is
 one_step inputs s steps is all (suc k) step at = all k step at
 
-pub steps_fit : (inputs : List Port) (count : ℕ) (lines : List BenchLine) (steps : List Step) → HaveWidths inputs → count ≤ 1000000 → steps_from inputs count lines ≡ Ok steps → All inputs steps × (count + sum_by cycles_of steps ≤ 1000000)
+pub steps_fit : (inputs : List Port) (count : ℕ) (lines : List BenchLine) (steps : List Step) → HaveWidths inputs → count ≤ 1000000
+    → steps_from inputs count lines ≡ Ok steps → All inputs steps × (count + sum_by cycles_of steps ≤ 1000000)
 steps_fit inputs count [] steps widths few e =
     let none : [] ≡ steps = cc in
     (subst (All inputs) none (no_step inputs), subst (λ (l : List Step). count + sum_by cycles_of l ≤ 1000000) none (omega (arith, few)))
@@ -141,7 +144,9 @@ steps_fit inputs count (l ∷ ls) steps widths few e = by (λ s more. steps_fit 
     joined : (s : Step) (more : List Step) → Fits inputs count s → Keep (count + cycles_of s) more → Keep count (s ∷ more)
     joined s more fits kept = (one_step inputs s more fits.0 kept.0, let sum = sum_by-cons cycles_of s more in omega (arith, sum, kept.1))
 
-    by_rest : (s : Step) → Fits inputs count s → ((more : List Step) → count + cycles_of s ≤ 1000000 → steps_from inputs (count + cycles_of s) ls ≡ Ok more → Keep (count + cycles_of s) more) → (r : Result (List Step) Fault) → steps_from inputs (count + cycles_of s) ls ≡ r → before s r ≡ Ok steps → Keep count steps
+    by_rest : (s : Step) → Fits inputs count s
+        → ((more : List Step) → count + cycles_of s ≤ 1000000 → steps_from inputs (count + cycles_of s) ls ≡ Ok more → Keep (count + cycles_of s) more)
+        → (r : Result (List Step) Fault) → steps_from inputs (count + cycles_of s) ls ≡ r → before s r ≡ Ok steps → Keep count steps
     by_rest s fits rest (Err f) is e = cc
     by_rest s fits rest (Ok more) is e = let same : s ∷ more ≡ steps = cc in subst (Keep count) same (joined s more fits (rest more fits.1 is))
 
@@ -150,9 +155,11 @@ steps_fit inputs count (l ∷ ls) steps widths few e = by (λ s more. steps_fit 
     by rest (Ok s) is e = by_rest s (step_fits inputs count l.what s widths few is) (rest s) (steps_from inputs (count + cycles_of s) ls) refl e
 
 -- no line is left
-pub steps_end : (inputs : List Port) (count : ℕ) (lines : List BenchLine) (i : ℕ) (steps : List Step) → HaveWidths inputs → length lines ≤ i → onto steps (steps_from inputs count (drop i lines)) ≡ steps_from inputs 0 lines → AreStepsFor inputs steps
+pub steps_end : (inputs : List Port) (count : ℕ) (lines : List BenchLine) (i : ℕ) (steps : List Step) → HaveWidths inputs → length lines ≤ i
+    → onto steps (steps_from inputs count (drop i lines)) ≡ steps_from inputs 0 lines → AreStepsFor inputs steps
 steps_end inputs count lines i steps widths past so_far =
     let none : drop i lines ≡ [] = drop_of_length-le lines past in
-    let last : onto steps (steps_from inputs count (drop i lines)) ≡ Ok steps = ap (λ (l : List BenchLine). onto steps (steps_from inputs count l)) none ∙ ap (λ (l : List Step). let r : Result (List Step) Fault = Ok l in r) (append-nil steps) in
+    let last : onto steps (steps_from inputs count (drop i lines)) ≡ Ok steps = ap (λ (l : List BenchLine). onto steps (steps_from inputs count l)) none
+    ∙ ap (λ (l : List Step). let r : Result (List Step) Fault = Ok l in r) (append-nil steps) in
     let kept = steps_fit inputs 0 lines steps widths (omega arith) (sym so_far ∙ last) in
     record { each = kept.0; few = omega (arith, kept.1) }

@@ -28,14 +28,17 @@ value_pieces name bytes front w v same digits = ap (λ (l : List ℕ). 32 ∷ l)
     )
 
 -- one output more
-pub values_more : (outputs : List Port) (values : List ℕ) (i : ℕ) (p : Port) (v : ℕ) → i < length outputs → length values ≡ length outputs → p ≡ get_or outputs i p → v ≡ get_or values i 0 → values_text (drop i outputs) (drop i values) ≡ value_text (p, v) ++ values_text (drop (i + 1) outputs) (drop (i + 1) values)
+pub values_more : (outputs : List Port) (values : List ℕ) (i : ℕ) (p : Port) (v : ℕ) → i < length outputs → length values ≡ length outputs → p ≡ get_or outputs i p
+    → v ≡ get_or values i 0 → values_text (drop i outputs) (drop i values) ≡ value_text (p, v) ++ values_text (drop (i + 1) outputs) (drop (i + 1) values)
 values_more outputs values i p v within same item is =
     let ports : drop i outputs ≡ p ∷ drop (i + 1) outputs = rw add-one (drop-cons outputs i p within ∙ ap (λ (q : Port). q ∷ drop (suc i) outputs) (sym item)) in
     let numbers : drop i values ≡ v ∷ drop (i + 1) values = rw add-one (drop-cons values i 0 (omega (arith, within, same)) ∙ ap (λ (x : ℕ). x ∷ drop (suc i) values) (sym is)) in
     ap (λ (ps : List Port). values_text ps (drop i values)) ports ∙ ap (λ (vs : List ℕ). values_text (p ∷ drop (i + 1) outputs) vs) numbers
 
 -- one output more, whose value the simulator told
-pub outputs_more : (ports outputs : List Port) (values : List ℕ) (i : ℕ) (p : Port) (x : BitVector) → ports ≡ outputs → i < length outputs → length values ≡ length ports → p ≡ get_or outputs i p → ((q : Port) → slice_get ports i ≡ Some q → x ≡ record { width = q.width; value = slice_index values i }) → values_text (drop i outputs) (drop i values) ≡ value_text (p, x.value) ++ values_text (drop (i + 1) outputs) (drop (i + 1) values)
+pub outputs_more : (ports outputs : List Port) (values : List ℕ) (i : ℕ) (p : Port) (x : BitVector) → ports ≡ outputs → i < length outputs → length values ≡ length ports
+    → p ≡ get_or outputs i p → ((q : Port) → slice_get ports i ≡ Some q → x ≡ record { width = q.width; value = slice_index values i })
+    → values_text (drop i outputs) (drop i values) ≡ value_text (p, x.value) ++ values_text (drop (i + 1) outputs) (drop (i + 1) values)
 outputs_more ports outputs values i p x same within many item told =
     let there : slice_get outputs i ≡ Some p = slice_get_read outputs (length outputs) i p refl within item in
     let is : x ≡ record { width = p.width; value = slice_index values i } = told p (ap (λ (ps : List Port). slice_get ps i) same ∙ there) in

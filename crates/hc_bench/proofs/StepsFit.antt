@@ -94,7 +94,11 @@ module _ (inputs : List Port) (widths : (p : Port) → Has inputs p → IsWidth 
   AllFit count steps = ((k : ℕ) (step : Step) → slice_get steps k ≡ Some step → IsStepFor inputs step) × (count + sum_by cycles_of steps ≤ 1000000)
 
   one_more : (count : ℕ) (step : Step) (rest : List Step) → Fits count step → AllFit (count + cycles_of step) rest → AllFit count (step ∷ rest)
-  one_more count step rest fit all = (each, (let s : sum_by cycles_of (step ∷ rest) ≡ cycles_of step + sum_by cycles_of rest = sum_by-cons cycles_of step rest in let m : count + cycles_of step + sum_by cycles_of rest ≤ 1000000 = all.1 in omega (arith, s, m)))
+  one_more count step rest fit all = (
+    each,
+    (let s : sum_by cycles_of (step ∷ rest) ≡ cycles_of step + sum_by cycles_of rest = sum_by-cons cycles_of step rest
+        in let m : count + cycles_of step + sum_by cycles_of rest ≤ 1000000 = all.1 in omega (arith, s, m)),
+  )
     where
       each : (k : ℕ) (other : Step) → slice_get (step ∷ rest) k ≡ Some other → IsStepFor inputs other
       each zero other e = let same : step ≡ other = cc in subst (IsStepFor inputs) same fit.0
@@ -104,12 +108,14 @@ module _ (inputs : List Port) (widths : (p : Port) → Has inputs p → IsWidth 
   steps_fit [] count few steps e = let same : [] ≡ steps = cc in subst (AllFit count) same ((λ k step at. absurd cc), omega (arith, few))
   steps_fit (l ∷ ls) count few steps e = by (step_of inputs count l.what) refl e (λ step less rest is. steps_fit ls (count + cycles_of step) less rest is)
     where
-      joined : (step : Step) → Fits count step → (r : Result (List Step) Fault) → ((rest : List Step) → r ≡ Ok rest → AllFit (count + cycles_of step) rest) → before step r ≡ Ok steps → AllFit count steps
+      joined : (step : Step) → Fits count step → (r : Result (List Step) Fault) → ((rest : List Step) → r ≡ Ok rest → AllFit (count + cycles_of step) rest)
+          → before step r ≡ Ok steps → AllFit count steps
       joined step fit (Ok rest) all e' = let same : step ∷ rest ≡ steps = cc in subst (AllFit count) same (one_more count step rest fit (all rest refl))
       joined step fit (Err f) all e' = absurd cc
 
       by : (r : Result Step FaultKind) → step_of inputs count l.what ≡ r → then_steps (at_line l.line r) (λ step. steps_from inputs (count + cycles_of step) ls) ≡ Ok steps
-          → ((step : Step) → count + cycles_of step ≤ 1000000 → (rest : List Step) → steps_from inputs (count + cycles_of step) ls ≡ Ok rest → AllFit (count + cycles_of step) rest) → AllFit count steps
+          → ((step : Step) → count + cycles_of step ≤ 1000000 → (rest : List Step) → steps_from inputs (count + cycles_of step) ls ≡ Ok rest → AllFit (count + cycles_of step) rest)
+          → AllFit count steps
       by (Ok step) is e' more = let fit : Fits count step = step_fits count few l.what step is in joined step fit (steps_from inputs (count + cycles_of step) ls) (more step fit.1) e'
       by (Err kind) is e' more = absurd cc
 

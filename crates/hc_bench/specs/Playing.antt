@@ -30,7 +30,8 @@ pub record IsPartListed (outputs : List Port) (sim : Simulation) (count : ℕ) (
 -- From one place of a run, after so many cycles, these steps lead to another, with these rows: what goes on there goes on
 -- from the first place.
 abbrev pub LeadsTo : Simulation → ℕ → List Step → Simulation → ℕ → List CycleRow → Type 0
-LeadsTo from count steps to next rows = (more : List Step) (others : List CycleRow) → Trace from.tree to.state to.inputs next more others → Trace from.tree from.state from.inputs count (steps ++ more) (rows ++ others)
+LeadsTo from count steps to next rows = (more : List Step) (others : List CycleRow) → Trace from.tree to.state to.inputs next more others
+    → Trace from.tree from.state from.inputs count (steps ++ more) (rows ++ others)
 
 -- The steps were played. Of the bytes that waited and the listing of their rows, all were taken but those that are left waiting.
 pub record Plays (outputs : List Port) (from : Simulation) (count : ℕ) (steps : List Step) (to : Simulation) (next : ℕ) (old new : Option (List ℕ)) (waiting left : List ℕ) : Type 0 where

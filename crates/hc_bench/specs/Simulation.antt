@@ -84,7 +84,8 @@ outputs_of t v = map (value_at v []) (graph t).outputs
 -- ---- states
 
 abbrev pub IsRegister : Tree → Occurrence → Type 0
-IsRegister t s = (row : NodeRow) × (next : NodeId) × (enable : Option NodeId) × (clear : Option (NodeId × BitVector)) × (init : BitVector) × IsReachedOccurrence t s × (row_at t s ≡ Some row) × (row.node ≡ Reg next enable clear init)
+IsRegister t s = (row : NodeRow) × (next : NodeId) × (enable : Option NodeId) × (clear : Option (NodeId × BitVector)) × (init : BitVector) × IsReachedOccurrence t s
+    × (row_at t s ≡ Some row) × (row.node ≡ Reg next enable clear init)
 
 abbrev pub IsMemory : Tree → Occurrence → ℕ → Type 0
 IsMemory t s size = (m : Memory) × IsReachedPath t s.path × Reached (graph_at t s.path) (mem s.node) × (slice_get (graph_at t s.path).memories s.node ≡ Some m) × (m.size ≡ size)

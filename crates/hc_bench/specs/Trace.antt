@@ -22,10 +22,12 @@ pub record IsCycle (t : Tree) (state : State) (inputs : List ℕ) (next : State)
 -- The steps give these rows, from this state, these inputs and this number of cycles before.
 pub data Trace (t : Tree) : (state : State) (inputs : List ℕ) (count : ℕ) (steps : List Step) (rows : List CycleRow) → Type 0 where
   stop : {state : State} {inputs : List ℕ} {count : ℕ} → Trace t state inputs count [] []
-  set : {state : State} {inputs : List ℕ} {count port : ℕ} {x : BitVector} {steps : List Step} {rows : List CycleRow} → port < length inputs → Trace t state (slice_set inputs port x.value) count steps rows → Trace t state inputs count (Set port x ∷ steps) rows
+  set : {state : State} {inputs : List ℕ} {count port : ℕ} {x : BitVector} {steps : List Step} {rows : List CycleRow} → port < length inputs
+      → Trace t state (slice_set inputs port x.value) count steps rows → Trace t state inputs count (Set port x ∷ steps) rows
   start : {state : State} {inputs : List ℕ} {count : ℕ} {steps : List Step} {rows : List CycleRow} → Trace t (reset t state) inputs count steps rows → Trace t state inputs count (Reset ∷ steps) rows
   past : {state : State} {inputs : List ℕ} {count : ℕ} {steps : List Step} {rows : List CycleRow} → Trace t state inputs count steps rows → Trace t state inputs count (Cycle zero ∷ steps) rows
-  cycle : {state next : State} {inputs before after : List ℕ} {count times : ℕ} {steps : List Step} {rows : List CycleRow} → IsCycle t state inputs next before after → Trace t next inputs (suc count) (Cycle times ∷ steps) rows
+  cycle : {state next : State} {inputs before after : List ℕ} {count times : ℕ} {steps : List Step} {rows : List CycleRow} → IsCycle t state inputs next before after
+      → Trace t next inputs (suc count) (Cycle times ∷ steps) rows
       → Trace t state inputs count (Cycle (suc times) ∷ steps) (record { cycle = count; before = before; after = after } ∷ rows)
 
 -- From the initial state and inputs the steps give these rows.

@@ -37,9 +37,23 @@ record Opened (e f : Elaborating) (ins outs : List Port) : Type 0 where
 opened_none : (e : Elaborating) → Opened e e [] []
 opened_none e = record { inputs = sym (append-nil e.graph.ports.inputs); outputs = sym (append-nil e.graph.ports.outputs); instances = refl; children = refl }
 
-opened_head : (hs : List Head) (ws : List ℕ) (h : Head) (w : ℕ) (b : Bool) (e f : Elaborating) → Opened (if b then open_input e h.name w else open_output e h.line h.name w) f (inputs_of hs ws) (outputs_of hs ws) → Opened e f (if b then port h.name w ∷ inputs_of hs ws else inputs_of hs ws) (if b then outputs_of hs ws else port h.name w ∷ outputs_of hs ws)
-opened_head hs ws h w true e f o = record { inputs = o.inputs ∙ append_assoc e.graph.ports.inputs (port h.name w ∷ []) (inputs_of hs ws); outputs = o.outputs; instances = o.instances; children = o.children }
-opened_head hs ws h w false e f o = record { inputs = o.inputs; outputs = o.outputs ∙ append_assoc e.graph.ports.outputs (port h.name w ∷ []) (outputs_of hs ws); instances = o.instances; children = o.children }
+opened_head : (hs : List Head) (ws : List ℕ) (h : Head) (w : ℕ) (b : Bool) (e f : Elaborating)
+    → Opened (if b then open_input e h.name w else open_output e h.line h.name w) f (inputs_of hs ws) (outputs_of hs ws)
+    → Opened e f (if b then port h.name w ∷ inputs_of hs ws else inputs_of hs ws) (if b then outputs_of hs ws else port h.name w ∷ outputs_of hs ws)
+opened_head hs ws h w true e f o = record {
+  inputs = o.inputs ∙ append_assoc e.graph.ports.inputs (port h.name w ∷ [])
+      (inputs_of hs ws);
+  outputs = o.outputs;
+  instances = o.instances;
+  children = o.children;
+}
+opened_head hs ws h w false e f o = record {
+  inputs = o.inputs;
+  outputs = o.outputs ∙ append_assoc e.graph.ports.outputs (port h.name w ∷ [])
+      (outputs_of hs ws);
+  instances = o.instances;
+  children = o.children;
+}
 
 opened : (hs : List Head) (ws : List ℕ) (e : Elaborating) → Opened e (open_heads hs ws e) (inputs_of hs ws) (outputs_of hs ws)
 opened [] ws e = opened_none e
@@ -47,7 +61,8 @@ opened (h ∷ hs) [] e = opened_none e
 opened (h ∷ hs) (w ∷ ws) e = opened_head hs ws h w h.is_input e (open_heads hs ws (open_head h w e)) (opened hs ws (open_head h w e))
 
 same_ports : (p q : Ports) → p.inputs ≡ q.inputs → p.outputs ≡ q.outputs → p ≡ q
-same_ports p q i o = ap (λ (is : List Port). let r : Ports = record { inputs = is; outputs = p.outputs } in r) i ∙ ap (λ (os : List Port). let r : Ports = record { inputs = q.inputs; outputs = os } in r) o
+same_ports p q i o = ap (λ (is : List Port). let r : Ports = record { inputs = is; outputs = p.outputs } in r) i
+    ∙ ap (λ (os : List Port). let r : Ports = record { inputs = q.inputs; outputs = os } in r) o
 
 module _ (d : Design) where
   open_sound : (hs : List Head) (ws : List ℕ) → Sound d (ports_of hs ws) (open_heads hs ws nothing)
@@ -60,7 +75,8 @@ module _ (d : Design) where
   module _ (path : Path) (ports : Ports) where
     -- ---- the items of the body
 
-    weighed_sound : (count line : ℕ) (r : Result (Elaborating × Unit {0}) Broken) (f : Elaborating) → ((g : Elaborating) (x : Unit {0}) → r ≡ Ok (g, x) → Sound d ports g) → weighed d path count line r ≡ Ok f → Sound d ports f
+    weighed_sound : (count line : ℕ) (r : Result (Elaborating × Unit {0}) Broken) (f : Elaborating) → ((g : Elaborating) (x : Unit {0}) → r ≡ Ok (g, x) → Sound d ports g)
+        → weighed d path count line r ≡ Ok f → Sound d ports f
     weighed_sound count line (Err fault) f sound is = absurd cc
     weighed_sound count line (Ok done) f sound is = by (nat_le (count + graph_weight done.0.graph) most_weight) is
       where
@@ -73,7 +89,8 @@ module _ (d : Design) where
     items_sound (Stop line kind ∷ items) e f s is = absurd cc
     items_sound (Do count line st ∷ items) e f s is = by (statement d path count line st e) refl is (λ g t more. items_sound items g f t more)
       where
-        by : (r : Result Elaborating Fault) → statement d path count line st e ≡ r → go_on d path r (elaborated d path items) ≡ Ok f → ((g : Elaborating) → Sound d ports g → elaborated d path items g ≡ Ok f → Sound d ports f) → Sound d ports f
+        by : (r : Result Elaborating Fault) → statement d path count line st e ≡ r → go_on d path r (elaborated d path items) ≡ Ok f
+            → ((g : Elaborating) → Sound d ports g → elaborated d path items g ≡ Ok f → Sound d ports f) → Sound d ports f
         by (Err fault) was last more = absurd cc
         by (Ok g) was last more = more g (weighed_sound count line (statement_step d line st e) g (λ h x done. (statement_keeps d ports line st).kept e h x s done) was) last
 
@@ -87,7 +104,12 @@ module _ (d : Design) where
     where
       by : (r : PortWidths) → port_widths c args ≡ r → after_heads d path c args r ≡ Ok e → HasPorts c args e
       by (Err f) have last = absurd cc
-      by (Ok widths) have last = (widths, have, items_sound path (ports_of c.heads widths) (unrolled c.body (parameters c args)).items (open_heads c.heads widths nothing) e (open_sound c.heads widths) last)
+      by (Ok widths) have last = (
+        widths,
+        have,
+        items_sound path (ports_of c.heads widths) (unrolled c.body (parameters c args)).items (open_heads c.heads widths nothing) e
+            (open_sound c.heads widths) last,
+      )
 
   abbrev IsBody : CircuitText → List ℤ → Body → Type 0
   IsBody c args b = (e : Elaborating) × HasPorts c args e × (body_of c args e ≡ b)
@@ -99,7 +121,8 @@ module _ (d : Design) where
   made path c args r (undriven f n is breaks) b e = absurd cc
   made path c args r (whole f is checked) b e = let same : body_of c args f ≡ b = cc in (f, body_sound path c args f is, same)
 
-  pub body_ports : (c : CircuitText) (args : List ℤ) (path : Path) (b : Body) → BodyOf d c args path (Ok b) → (widths : List ℕ) × (port_widths c args ≡ Ok widths) × (b.circuit.ports ≡ ports_of c.heads widths)
+  pub body_ports : (c : CircuitText) (args : List ℤ) (path : Path) (b : Body) → BodyOf d c args path (Ok b)
+      → (widths : List ℕ) × (port_widths c args ≡ Ok widths) × (b.circuit.ports ≡ ports_of c.heads widths)
   body_ports c args path b of = by (made path c args (Ok b) of b refl)
     where
       by : IsBody c args b → (widths : List ℕ) × (port_widths c args ≡ Ok widths) × (b.circuit.ports ≡ ports_of c.heads widths)
@@ -112,7 +135,8 @@ module _ (d : Design) where
     ports = λ i child it k at stands is. fit child it k is (matched_fits d e.children e.graph.instances i child it s.matched at stands);
   }
     where
-      fit : (child : Child) (it : Instance) (k : CircuitText) → IsCallOf d child.call k → Fits d child it → (widths : List ℕ) × (port_widths k child.call.args ≡ Ok widths) × (it.ports ≡ ports_of k.heads widths)
+      fit : (child : Child) (it : Instance) (k : CircuitText) → IsCallOf d child.call k → Fits d child it
+          → (widths : List ℕ) × (port_widths k child.call.args ≡ Ok widths) × (it.ports ≡ ports_of k.heads widths)
       fit child it k is fits =
           let one : slice_get d.circuits child.call.circuit ≡ Some fits.circuit = fits.is_call.there in
           let two : slice_get d.circuits child.call.circuit ≡ Some k = is.there in

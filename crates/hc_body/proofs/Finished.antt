@@ -27,7 +27,8 @@ use Rattle.hc_body.specs.BodyOf.{BodyOf, broken, no_outputs, many_ports, undrive
 
 words_bound : (ms : List Memory) → ((m : Memory) → Has ms m → m.size ≤ 65536) → sum_by (λ (m : Memory). m.size) ms ≤ 65536 * length ms
 words_bound [] small = omega arith
-words_bound (m ∷ ms) small = rw (sum_by-cons (λ (k : Memory). k.size) m ms) (more m.size (sum_by (λ (k : Memory). k.size) ms) (length ms) (small m first) (words_bound ms (λ k has. small k (later has))))
+words_bound (m ∷ ms) small = rw (sum_by-cons (λ (k : Memory). k.size) m ms)
+    (more m.size (sum_by (λ (k : Memory). k.size) ms) (length ms) (small m first) (words_bound ms (λ k has. small k (later has))))
   where
     more : (x s n : ℕ) → x ≤ 65536 → s ≤ 65536 * n → x + s ≤ 65536 * suc n
     more x s n one rest = omega (arith, one, rest)
@@ -41,22 +42,28 @@ module _ (d : Design) (c : CircuitText) (args : List ℤ) (path : Path) (e : Ela
   stops few_ports place is (some, many, at) = many_ports e is (some, many, refl)
   stops all_driven place is breaks = undriven e place is breaks
 
-  stop_answer : (rule : Rule) (place : ℕ) (r : Refused) → call_elaborated d path c args ≡ Ok e → Breaks e.graph rule place → Tells r (fault_at path (kind_of rule) (broken_line c e.declared rule place)) → IsAnswer (λ (b : Body). b) (BodyOf d c args path) (Err r)
+  stop_answer : (rule : Rule) (place : ℕ) (r : Refused) → call_elaborated d path c args ≡ Ok e → Breaks e.graph rule place
+      → Tells r (fault_at path (kind_of rule) (broken_line c e.declared rule place)) → IsAnswer (λ (b : Body). b) (BodyOf d c args path) (Err r)
   stop_answer rule place refused.NoMemory is breaks tells = tt
   stop_answer rule place (refused.Fault fault) is breaks tells = subst (λ (f : Fault). BodyOf d c args path (Err f)) (sym tells) (stops rule place is breaks)
 
-  pub breaks_answer : (g : Graph) (declared : List (NodeId × ℕ)) (rule : Rule) (place line : ℕ) (kind : FaultKind) (r : Refused) → call_elaborated d path c args ≡ Ok e → g ≡ e.graph → declared ≡ e.declared → kind ≡ kind_of rule → Breaks g rule place → line ≡ broken_line c declared rule place → Tells r (fault_at path kind line) → IsAnswer (λ (b : Body). b) (BodyOf d c args path) (Err r)
+  pub breaks_answer : (g : Graph) (declared : List (NodeId × ℕ)) (rule : Rule) (place line : ℕ) (kind : FaultKind) (r : Refused) → call_elaborated d path c args ≡ Ok e
+      → g ≡ e.graph → declared ≡ e.declared → kind ≡ kind_of rule → Breaks g rule place → line ≡ broken_line c declared rule place → Tells r (fault_at path kind line)
+      → IsAnswer (λ (b : Body). b) (BodyOf d c args path) (Err r)
   breaks_answer g declared rule place line kind r is same lines of breaks at tells =
       let here : line ≡ broken_line c e.declared rule place = at ∙ ap (λ (l : List (NodeId × ℕ)). broken_line c l rule place) lines in
       stop_answer rule place r is (subst (λ (h : Graph). Breaks h rule place) same breaks)
       (subst (λ (k : FaultKind). Tells r (fault_at path k (broken_line c e.declared rule place))) of (subst (λ (l : ℕ). Tells r (fault_at path kind l)) here tells))
 
-  pub whole_answer : (g : Graph) (weight words : ℕ) → call_elaborated d path c args ≡ Ok e → g ≡ e.graph → IsChecked g → weight ≡ (unrolled c.body (parameters c args)).count + graph_weight e.graph → words ≡ graph_words e.graph → BodyOf d c args path (Ok (record { circuit = g; children = e.children; weight = weight; words = words }))
+  pub whole_answer : (g : Graph) (weight words : ℕ) → call_elaborated d path c args ≡ Ok e → g ≡ e.graph → IsChecked g
+      → weight ≡ (unrolled c.body (parameters c args)).count + graph_weight e.graph → words ≡ graph_words e.graph
+      → BodyOf d c args path (Ok (record { circuit = g; children = e.children; weight = weight; words = words }))
   whole_answer g weight words is same checked heavy many =
       let b : Body = record { circuit = g; children = e.children; weight = weight; words = words } in
       let made : b ≡ body_of c args e = cc in
       subst (λ (x : Body). BodyOf d c args path (Ok x)) (sym made) (whole e is (subst IsChecked same checked))
 
-pub fault_answer : (d : Design) (c : CircuitText) (args : List ℤ) (path : Path) (stop : Refused) → Refuses stop (call_elaborated d path c args) → IsAnswer (λ (b : Body). b) (BodyOf d c args path) (Err stop)
+pub fault_answer : (d : Design) (c : CircuitText) (args : List ℤ) (path : Path) (stop : Refused) → Refuses stop (call_elaborated d path c args)
+    → IsAnswer (λ (b : Body). b) (BodyOf d c args path) (Err stop)
 fault_answer d c args path refused.NoMemory is = tt
 fault_answer d c args path (refused.Fault fault) is = broken fault is

@@ -140,10 +140,13 @@ not_lt_frames : (x y : NodeId) → Frames (not_lt x y)
 not_lt_frames x y = then_frames (two_frames op2.Lt x y) invert_frames
 
 lts_frames : (x y : NodeId) → Frames (lts x y)
-lts_frames x y = then_frames (width_frames x) (λ v. then_frames (width_frames y) (λ w. then_frames (rule_frames WidthMismatch (v == w)) (λ _. then_frames (constant_frames (sign_bit w)) (λ k. then_frames (two_frames op2.Xor x k) (λ a. then_frames (two_frames op2.Xor y k) (λ b. two_frames op2.Lt a b))))))
+lts_frames x y = then_frames (width_frames x) (λ v. then_frames (width_frames y)
+    (λ w. then_frames (rule_frames WidthMismatch (v == w)) (λ _. then_frames (constant_frames (sign_bit w))
+    (λ k. then_frames (two_frames op2.Xor x k) (λ a. then_frames (two_frames op2.Xor y k) (λ b. two_frames op2.Lt a b))))))
 
 mux2_frames : (s a b : NodeId) → Frames (mux2 s a b)
-mux2_frames s a b = then_frames (width_frames s) (λ u. then_frames (width_frames a) (λ v. then_frames (width_frames b) (λ w. then_frames (rule_frames WidthMismatch ((u == 1) && (v == w))) (λ _. mux_frames s (b ∷ a ∷ [])))))
+mux2_frames s a b = then_frames (width_frames s) (λ u. then_frames (width_frames a)
+    (λ v. then_frames (width_frames b) (λ w. then_frames (rule_frames WidthMismatch ((u == 1) && (v == w))) (λ _. mux_frames s (b ∷ a ∷ [])))))
 
 msb_frames : (x : NodeId) → Frames (msb x)
 msb_frames x = then_frames (width_frames x) (λ w. part_frames x (w - 1) (w - 1))
@@ -168,13 +171,16 @@ sresize_frames : (x : NodeId) (z : ℤ) → Frames (sresize x z)
 sresize_frames x z = then_frames (given_frames (as_width z)) (λ n. then_frames (width_frames x) (λ w. sign_extended_frames x w n))
 
 left_frames : (x : NodeId) (w k : ℕ) → Frames (left x w k)
-left_frames x w k = if_frames (k == 0) (answer_frames x) (if_frames (nat_le w k) (zeros_frames w) (then_frames (part_frames x (w - 1 - k) 0) (λ a. then_frames (zeros_frames k) (λ z. cat_frames (a ∷ z ∷ [])))))
+left_frames x w k = if_frames (k == 0) (answer_frames x) (if_frames (nat_le w k) (zeros_frames w)
+    (then_frames (part_frames x (w - 1 - k) 0) (λ a. then_frames (zeros_frames k) (λ z. cat_frames (a ∷ z ∷ [])))))
 
 right_frames : (x : NodeId) (w k : ℕ) → Frames (right x w k)
-right_frames x w k = if_frames (k == 0) (answer_frames x) (if_frames (nat_le w k) (zeros_frames w) (then_frames (zeros_frames k) (λ z. then_frames (part_frames x (w - 1) k) (λ a. cat_frames (z ∷ a ∷ [])))))
+right_frames x w k = if_frames (k == 0) (answer_frames x) (if_frames (nat_le w k) (zeros_frames w)
+    (then_frames (zeros_frames k) (λ z. then_frames (part_frames x (w - 1) k) (λ a. cat_frames (z ∷ a ∷ [])))))
 
 right_signed_frames : (x : NodeId) (w k : ℕ) → Frames (right_signed x w k)
-right_signed_frames x w k = if_frames (k == 0) (answer_frames x) (then_frames (msb_frames x) (λ m. if_frames (nat_le w k) (copies_frames m w) (then_frames (copies_frames m k) (λ top. then_frames (part_frames x (w - 1) k) (λ a. cat_frames (top ∷ a ∷ []))))))
+right_signed_frames x w k = if_frames (k == 0) (answer_frames x)
+    (then_frames (msb_frames x) (λ m. if_frames (nat_le w k) (copies_frames m w) (then_frames (copies_frames m k) (λ top. then_frames (part_frames x (w - 1) k) (λ a. cat_frames (top ∷ a ∷ []))))))
 
 shift_frames : (by : NodeId → ℕ → ℕ → Draws NodeId) → ((x : NodeId) (w k : ℕ) → Frames (by x w k)) → (x : NodeId) (k : ℤ) → Frames (shift by x k)
 shift_frames by each x (pos k) = then_frames (width_frames x) (λ w. each x w k)
@@ -308,7 +314,9 @@ selects_frames : (enable : Option NodeId) (clear : Option (NodeId × ℤ)) → F
 selects_frames enable clear = unless_frames (λ g. reg_rule (option_map (width_at g) enable) (option_map (width_at g) (clear_node clear))) (λ g. (g, tt)) (λ g. frame_none g g refl)
 
 pub register_frames : (next : NodeId) (enable : Option NodeId) (clear : Option (NodeId × ℤ)) (first : Option ℤ) → Frames (register next enable clear first)
-register_frames next enable clear first = then_frames (selects_frames enable clear) (λ _. then_frames (width_frames next) (λ w. then_frames (given_frames (clear_in w clear)) (λ c. then_frames (given_frames (init_in w first)) (λ init. row_frames next enable c init))))
+register_frames next enable clear first = then_frames (selects_frames enable clear)
+    (λ _. then_frames (width_frames next) (λ w. then_frames (given_frames (clear_in w clear)) (λ c. then_frames (given_frames (init_in w first)) (λ init. row_frames next enable c init))))
 
 pub new_memory_frames : (size : ℤ) (w : ℕ) → Frames (new_memory size w)
-new_memory_frames size w = unless_frames (λ g. size_rule size) (λ g. (record g { memories = g.memories ++ memory (nat_abs size) w ∷ [] }, next_memory g)) (λ g. record { ports = refl; instances = refl })
+new_memory_frames size w = unless_frames (λ g. size_rule size) (λ g. (record g { memories = g.memories ++ memory (nat_abs size) w ∷ [] }, next_memory g))
+    (λ g. record { ports = refl; instances = refl })

@@ -49,7 +49,8 @@ record IsOfHeads (g : Graph) : Type 0 where
 
 of_head : (h : Head) (w : ℕ) (b : Bool) (e : Elaborating) → IsOfHeads e.graph → IsOfHeads (if b then open_input e h.name w else open_output e h.line h.name w).graph
 of_head h w true e are = record {
-  nodes = let n : _ = length_push e.graph.nodes (unlabelled w (Input (length e.graph.ports.inputs))) in let p : _ = length_push e.graph.ports.inputs (port h.name w) in let was : _ = are.nodes in omega (arith, n, p, was);
+  nodes = let n : _ = length_push e.graph.nodes (unlabelled w (Input (length e.graph.ports.inputs))) in let p : _ = length_push e.graph.ports.inputs (port h.name w)
+      in let was : _ = are.nodes in omega (arith, n, p, was);
   memories = are.memories;
   instances = are.instances;
 }
@@ -85,7 +86,8 @@ abbrev HeadsForm : Type 0
 HeadsForm = (c : CircuitText) (args : List ℤ) (widths : List ℕ) → port_widths c args ≡ Ok widths → IsFormedBody (open_heads c.heads widths nothing)
 
 module _ (d : Design) (statements : StatementsForm d) (heads : HeadsForm) (path : Path) where
-  weighed_small : (count line : ℕ) (r : Result (Elaborating × Unit {0}) Broken) (f : Elaborating) → ((g : Elaborating) → r ≡ Ok (g, tt) → IsFormedBody g) → weighed d path count line r ≡ Ok f → IsSmall f
+  weighed_small : (count line : ℕ) (r : Result (Elaborating × Unit {0}) Broken) (f : Elaborating) → ((g : Elaborating) → r ≡ Ok (g, tt) → IsFormedBody g)
+      → weighed d path count line r ≡ Ok f → IsSmall f
   weighed_small count line (Err fault) f formed is = absurd cc
   weighed_small count line (Ok done) f formed is = by (nat_le (count + graph_weight done.0.graph) most_weight) refl is
     where
@@ -101,7 +103,8 @@ module _ (d : Design) (statements : StatementsForm d) (heads : HeadsForm) (path 
   items_small (Stop line kind ∷ items) e f s is = absurd cc
   items_small (Do count line st ∷ items) e f s is = by (statement d path count line st e) refl is (λ g t more. items_small items g f t more)
     where
-      by : (r : Result Elaborating Fault) → statement d path count line st e ≡ r → go_on d path r (elaborated d path items) ≡ Ok f → ((g : Elaborating) → IsSmall g → elaborated d path items g ≡ Ok f → IsSmall f) → IsSmall f
+      by : (r : Result Elaborating Fault) → statement d path count line st e ≡ r → go_on d path r (elaborated d path items) ≡ Ok f
+          → ((g : Elaborating) → IsSmall g → elaborated d path items g ≡ Ok f → IsSmall f) → IsSmall f
       by (Err fault) was last more = absurd cc
       by (Ok g) was last more = more g (weighed_small count line (statement_step d line st e) g (λ h done. statements line st e h s.formed done) was) last
 
@@ -124,7 +127,8 @@ module _ (d : Design) (statements : StatementsForm d) (heads : HeadsForm) (path 
     made_lawful c args r (no_outputs f is breaks) b e = absurd cc
     made_lawful c args r (many_ports f is breaks) b e = absurd cc
     made_lawful c args r (undriven f n is breaks) b e = absurd cc
-    made_lawful c args r (whole f is checked) b e = let same : body_of c args f ≡ b = cc in subst (λ (x : Body). IsLawful x.circuit) same (small_lawful f (call_small c args f is) checked.few_inputs checked.few_outputs)
+    made_lawful c args r (whole f is checked) b e = let same : body_of c args f ≡ b = cc in subst (λ (x : Body). IsLawful x.circuit) same
+        (small_lawful f (call_small c args f is) checked.few_inputs checked.few_outputs)
 
     pub body_lawful : (c : CircuitText) (args : List ℤ) (b : Body) → BodyOf d c args path (Ok b) → IsLawful b.circuit
     body_lawful c args b of = made_lawful c args (Ok b) of b refl

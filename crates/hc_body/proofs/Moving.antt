@@ -35,7 +35,9 @@ module _ (d : Design) (p q : Path) where
       by false = own_moved CircuitWeight line
       by true = refl
 
-  after_statement : (items : List Item) (r s : Result Elaborating Fault) → AreMoved p q r s → ((e : Elaborating) → AreMoved p q (elaborated d p items e) (elaborated d q items e)) → AreMoved p q (go_on d p r (elaborated d p items)) (go_on d q s (elaborated d q items))
+  after_statement : (items : List Item) (r s : Result Elaborating Fault) → AreMoved p q r s
+      → ((e : Elaborating) → AreMoved p q (elaborated d p items e) (elaborated d q items e))
+      → AreMoved p q (go_on d p r (elaborated d p items)) (go_on d q s (elaborated d q items))
   after_statement items (Ok x) (Ok y) same more = subst (λ (z : Elaborating). AreMoved p q (elaborated d p items x) (elaborated d q items z)) same (more x)
   after_statement items (Ok x) (Err g) same more = absurd same
   after_statement items (Err f) (Ok y) same more = absurd same
@@ -79,8 +81,18 @@ module _ (d : Design) (p q : Path) where
     pub body_moved : (r : Result Body Fault) → BodyOf d c args p r → GivesMoved c args r
     body_moved r (broken fault is) = broken_moved fault (call_elaborated d q c args) refl (subst (λ t. AreMoved p q t (call_elaborated d q c args)) is (call_moved c args))
     body_moved r (no_outputs e is breaks) = record { other = Err (fault_at q NoOutputs c.line); body = no_outputs e (ok_moved e is) breaks; moved = own_moved NoOutputs c.line }
-    body_moved r (many_ports e is breaks) = record { other = Err (fault_at q PortCount (line_past c.heads)); body = many_ports e (ok_moved e is) breaks; moved = own_moved PortCount (line_past c.heads) }
-    body_moved r (undriven e n is breaks) = record { other = Err (fault_at q Undriven (line_of n e.declared)); body = undriven e n (ok_moved e is) breaks; moved = own_moved Undriven (line_of n e.declared) }
+    body_moved r (many_ports e is breaks) = record {
+      other = Err (fault_at q PortCount (line_past c.heads));
+      body = many_ports e (ok_moved e is) breaks;
+      moved = own_moved PortCount
+          (line_past c.heads);
+    }
+    body_moved r (undriven e n is breaks) = record {
+      other = Err (fault_at q Undriven (line_of n e.declared));
+      body = undriven e n
+          (ok_moved e is) breaks;
+      moved = own_moved Undriven (line_of n e.declared);
+    }
     body_moved r (whole e is checked) = record { other = Ok (body_of c args e); body = whole e (ok_moved e is) checked; moved = refl }
 
     pub body_stays : (b : Body) → BodyOf d c args p (Ok b) → BodyOf d c args q (Ok b)

@@ -32,7 +32,8 @@ no_meaning : (names : Names) (key : Key) (n : Key × Target) → meaning names k
 no_meaning [] key n e other = ap (λ (b : Bool). if b then Some n.1 else None) other
 no_meaning (m ∷ names) key n e other = by (same_key key m.0) e (λ is. no_meaning names key n is other)
   where
-    by : (b : Bool) → (if b then Some m.1 else meaning names key) ≡ None → (meaning names key ≡ None → meaning (names ++ n ∷ []) key ≡ None) → (if b then Some m.1 else meaning (names ++ n ∷ []) key) ≡ None
+    by : (b : Bool) → (if b then Some m.1 else meaning names key) ≡ None → (meaning names key ≡ None → meaning (names ++ n ∷ []) key ≡ None)
+        → (if b then Some m.1 else meaning (names ++ n ∷ []) key) ≡ None
     by true is more = absurd cc
     by false is more = more is
 
@@ -63,7 +64,8 @@ of_name (Ok v) taken name w e = by (is_among name taken) refl e
 new_after : (env : Bindings) (taken : List (List ℕ)) (names : Names) (hs : List Head) (ws : List ℕ) → AreNamesOf taken names → widths_after env taken hs ≡ Ok ws → AreNew names hs
 new_after env taken names [] ws of e = tt
 new_after env taken names (h ∷ hs) ws of e =
-    let parts : ((w : ℕ) × (at_line h.line (width_of env taken h) ≡ Ok w)) × ((vs : List ℕ) × (widths_after env (taken ++ h.name ∷ []) hs ≡ Ok vs)) = of_before (at_line h.line (width_of env taken h)) (widths_after env (taken ++ h.name ∷ []) hs) ws e in
+    let parts : ((w : ℕ) × (at_line h.line (width_of env taken h) ≡ Ok w)) × ((vs : List ℕ) × (widths_after env (taken ++ h.name ∷ []) hs ≡ Ok vs)) = of_before
+    (at_line h.line (width_of env taken h)) (widths_after env (taken ++ h.name ∷ []) hs) ws e in
     let free : is_among h.name taken ≡ false = of_name (and_then (value h.width env) as_width) taken h.name parts.0.0 (of_line h.line (width_of env taken h) parts.0.0 parts.0.1) in
     (of h.name free, λ t. new_after env (taken ++ h.name ∷ []) (names ++ ((h.name, None), t) ∷ []) hs parts.1.0 (names_more taken names h.name t of) parts.1.1)
 

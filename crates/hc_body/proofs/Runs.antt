@@ -34,7 +34,8 @@ pub run_append : (d : Design) (path : Path) (es fs : Events) (p : Progress) → 
 run_append d path [] fs p = refl
 run_append d path (x ∷ es) fs p = by (after_event d path x p) (λ q. run_append d path es fs q) ∙ sym (chain (after_event d path x p) (run d path es) (run d path fs))
   where
-    by : (r : Result Progress Fault) → ((q : Progress) → run d path (es ++ fs) q ≡ and_then (run d path es q) (run d path fs)) → and_then r (run d path (es ++ fs)) ≡ and_then r (λ q. and_then (run d path es q) (run d path fs))
+    by : (r : Result Progress Fault) → ((q : Progress) → run d path (es ++ fs) q ≡ and_then (run d path es q) (run d path fs))
+        → and_then r (run d path (es ++ fs)) ≡ and_then r (λ q. and_then (run d path es q) (run d path fs))
     by (Ok q) more = more q
     by (Err fault) more = refl
 
@@ -45,16 +46,21 @@ run_unrolled d path [] n e = refl
 run_unrolled d path (Stops line kind ∷ es) n e = refl
 run_unrolled d path (Counts line ∷ es) n e = by (nat_lt n most_counted) (run_unrolled d path es (suc n) e)
   where
-    by : (b : Bool) → elaborated d path (counted (suc n) es) e ≡ drawn (run d path es (suc n, e)) → elaborated d path (if b then counted (suc n) es else Stop line TooManyStatements ∷ []) e ≡ drawn (and_then (and_then (if b then Ok (suc n) else Err (fault_at path TooManyStatements line)) (λ m. Ok (m, e))) (run d path es))
+    by : (b : Bool) → elaborated d path (counted (suc n) es) e ≡ drawn (run d path es (suc n, e))
+        → elaborated d path (if b then counted (suc n) es else Stop line TooManyStatements ∷ []) e ≡ drawn
+        (and_then (and_then (if b then Ok (suc n) else Err (fault_at path TooManyStatements line)) (λ m. Ok (m, e))) (run d path es))
     by true more = more
     by false more = refl
 run_unrolled d path (Does line s ∷ es) n e = by (nat_lt n most_counted) (λ f. run_unrolled d path es (suc n) f)
   where
-    next : (r : Result Elaborating Fault) → ((f : Elaborating) → elaborated d path (counted (suc n) es) f ≡ drawn (run d path es (suc n, f))) → go_on d path r (elaborated d path (counted (suc n) es)) ≡ drawn (and_then (with_count (suc n) r) (run d path es))
+    next : (r : Result Elaborating Fault) → ((f : Elaborating) → elaborated d path (counted (suc n) es) f ≡ drawn (run d path es (suc n, f)))
+        → go_on d path r (elaborated d path (counted (suc n) es)) ≡ drawn (and_then (with_count (suc n) r) (run d path es))
     next (Ok f) more = more f
     next (Err fault) more = refl
 
-    by : (b : Bool) → ((f : Elaborating) → elaborated d path (counted (suc n) es) f ≡ drawn (run d path es (suc n, f))) → elaborated d path (if b then Do (suc n) line s ∷ counted (suc n) es else Stop line TooManyStatements ∷ []) e ≡ drawn (and_then (and_then (if b then Ok (suc n) else Err (fault_at path TooManyStatements line)) (λ m. with_count m (statement d path m line s e))) (run d path es))
+    by : (b : Bool) → ((f : Elaborating) → elaborated d path (counted (suc n) es) f ≡ drawn (run d path es (suc n, f)))
+        → elaborated d path (if b then Do (suc n) line s ∷ counted (suc n) es else Stop line TooManyStatements ∷ []) e ≡ drawn
+        (and_then (and_then (if b then Ok (suc n) else Err (fault_at path TooManyStatements line)) (λ m. with_count m (statement d path m line s e))) (run d path es))
     by true more = next (statement d path (suc n) line s e) more
     by false more = refl
 
@@ -64,14 +70,18 @@ run_counts d path [] p q e = let same : p ≡ q = cc in let n : q.0 ≡ p.0 = ap
 run_counts d path (Stops line kind ∷ es) p q e = absurd cc
 run_counts d path (Counts line ∷ es) p q e = by (nat_lt p.0 most_counted) e (λ f is. run_counts d path es (suc p.0, f) q is)
   where
-    by : (b : Bool) → and_then (and_then (if b then Ok (suc p.0) else Err (fault_at path TooManyStatements line)) (λ m. Ok (m, p.1))) (run d path es) ≡ Ok q → ((f : Elaborating) → run d path es (suc p.0, f) ≡ Ok q → q.0 ≡ suc p.0 + count_of es) → q.0 ≡ p.0 + suc (count_of es)
+    by : (b : Bool) → and_then (and_then (if b then Ok (suc p.0) else Err (fault_at path TooManyStatements line)) (λ m. Ok (m, p.1))) (run d path es) ≡ Ok q
+        → ((f : Elaborating) → run d path es (suc p.0, f) ≡ Ok q → q.0 ≡ suc p.0 + count_of es) → q.0 ≡ p.0 + suc (count_of es)
     by true is more = let h = more p.1 is in omega (arith, h)
     by false is more = absurd cc
 run_counts d path (Does line s ∷ es) p q e = by (nat_lt p.0 most_counted) (statement d path (suc p.0) line s p.1) refl e (λ f is. run_counts d path es (suc p.0, f) q is)
   where
-    by : (b : Bool) (r : Result Elaborating Fault) → statement d path (suc p.0) line s p.1 ≡ r → and_then (and_then (if b then Ok (suc p.0) else Err (fault_at path TooManyStatements line)) (λ m. with_count m (statement d path m line s p.1))) (run d path es) ≡ Ok q → ((f : Elaborating) → run d path es (suc p.0, f) ≡ Ok q → q.0 ≡ suc p.0 + count_of es) → q.0 ≡ p.0 + suc (count_of es)
+    by : (b : Bool) (r : Result Elaborating Fault) → statement d path (suc p.0) line s p.1 ≡ r
+        → and_then (and_then (if b then Ok (suc p.0) else Err (fault_at path TooManyStatements line)) (λ m. with_count m (statement d path m line s p.1))) (run d path es) ≡ Ok q
+        → ((f : Elaborating) → run d path es (suc p.0, f) ≡ Ok q → q.0 ≡ suc p.0 + count_of es) → q.0 ≡ p.0 + suc (count_of es)
     by true (Ok f) same is more = let h = more f (ap (λ (x : Result Elaborating Fault). and_then (with_count (suc p.0) x) (run d path es)) (sym same) ∙ is) in omega (arith, h)
-    by true (Err fault) same is more = let no : and_then (with_count (suc p.0) (Err fault)) (run d path es) ≡ Ok q = ap (λ (x : Result Elaborating Fault). and_then (with_count (suc p.0) x) (run d path es)) (sym same) ∙ is in absurd cc
+    by true (Err fault) same is more = let no : and_then (with_count (suc p.0) (Err fault)) (run d path es) ≡ Ok q = ap
+        (λ (x : Result Elaborating Fault). and_then (with_count (suc p.0) x) (run d path es)) (sym same) ∙ is in absurd cc
     by false r same is more = absurd cc
 
 -- ---- blocks
@@ -80,38 +90,45 @@ pub block_events : (body : List Stmt) (env : Bindings) → block (map events_of 
 block_events [] env = refl
 block_events (s ∷ body) env = ap (λ (es : Events). events_of s env ++ es) (block_events body env)
 
-pub plain_runs : (d : Design) (path : Path) (line n : ℕ) (es : Events) (e : Elaborating) → IsPlain line es → run d path es (n, e) ≡ and_then (counted_on path line n) (λ m. with_count m (weighed d path m line (first_step d es e)))
+pub plain_runs : (d : Design) (path : Path) (line n : ℕ) (es : Events) (e : Elaborating) → IsPlain line es
+    → run d path es (n, e) ≡ and_then (counted_on path line n) (λ m. with_count m (weighed d path m line (first_step d es e)))
 plain_runs d path line n [] e plain = absurd plain
 plain_runs d path line n (Stops at kind ∷ es) e plain = absurd plain
 plain_runs d path line n (Counts at ∷ es) e plain = absurd plain
 plain_runs d path line n (Does at s ∷ (x ∷ es)) e plain = absurd plain
-plain_runs d path line n (Does at s ∷ []) e plain = ends (and_then (counted_on path at n) (λ m. with_count m (statement d path m at s e))) ∙ ap (λ (l : ℕ). and_then (counted_on path l n) (λ m. with_count m (weighed d path m l (first_step d (Does at s ∷ []) e)))) plain
+plain_runs d path line n (Does at s ∷ []) e plain = ends (and_then (counted_on path at n) (λ m. with_count m (statement d path m at s e)))
+    ∙ ap (λ (l : ℕ). and_then (counted_on path l n) (λ m. with_count m (weighed d path m l (first_step d (Does at s ∷ []) e)))) plain
   where
     ends : (r : Result Progress Fault) → and_then r (λ p. Ok p) ≡ r
     ends (Ok p) = refl
     ends (Err fault) = refl
 
 -- one statement more of a block
-pub block_more : (d : Design) (path : Path) (env : Bindings) (body : List Stmt) (i : ℕ) (s : Stmt) (p q : Progress) (all : Result Progress Fault) → i < length body → s ≡ get_or body i s → run d path (events_of s env) p ≡ Ok q → run d path (events (drop i body) env) p ≡ all → run d path (events (drop (i + 1) body) env) q ≡ all
+pub block_more : (d : Design) (path : Path) (env : Bindings) (body : List Stmt) (i : ℕ) (s : Stmt) (p q : Progress) (all : Result Progress Fault) → i < length body
+    → s ≡ get_or body i s → run d path (events_of s env) p ≡ Ok q → run d path (events (drop i body) env) p ≡ all → run d path (events (drop (i + 1) body) env) q ≡ all
 block_more d path env body i s p q all within item is before =
     let rest : Events = events (drop (i + 1) body) env in
     let cut : events (drop i body) env ≡ events_of s env ++ rest = at_drop_more (flat_map (λ (t : Stmt). events_of t env)) body i s within ∙ ap (λ (t : Stmt). events_of t env ++ rest) (sym item) in
     sym (ap (λ (es : Events). run d path es p) cut ∙ run_append d path (events_of s env) rest p ∙ ap (λ (r : Result Progress Fault). and_then r (run d path rest)) is) ∙ before
 
 -- a statement of a block that has a fault
-pub block_fault : (d : Design) (path : Path) (env : Bindings) (body : List Stmt) (i : ℕ) (s : Stmt) (p : Progress) (fault : Fault) (all : Result Progress Fault) → i < length body → s ≡ get_or body i s → run d path (events_of s env) p ≡ Err fault → run d path (events (drop i body) env) p ≡ all → all ≡ Err fault
+pub block_fault : (d : Design) (path : Path) (env : Bindings) (body : List Stmt) (i : ℕ) (s : Stmt) (p : Progress) (fault : Fault) (all : Result Progress Fault)
+    → i < length body → s ≡ get_or body i s → run d path (events_of s env) p ≡ Err fault → run d path (events (drop i body) env) p ≡ all → all ≡ Err fault
 block_fault d path env body i s p fault all within item is before =
     let rest : Events = events (drop (i + 1) body) env in
     let cut : events (drop i body) env ≡ events_of s env ++ rest = at_drop_more (flat_map (λ (t : Stmt). events_of t env)) body i s within ∙ ap (λ (t : Stmt). events_of t env ++ rest) (sym item) in
     sym before ∙ ap (λ (es : Events). run d path es p) cut ∙ run_append d path (events_of s env) rest p ∙ ap (λ (r : Result Progress Fault). and_then r (run d path rest)) is
 
-pub block_refuses : (d : Design) (path : Path) (env now : Bindings) (body : List Stmt) (i : ℕ) (s : Stmt) (p : Progress) (stop : Refused) (all : Result Progress Fault) → i < length body → s ≡ get_or body i s → now ≡ env → Refuses stop (run d path (events_of s now) p) → run d path (events (drop i body) env) p ≡ all → Refuses stop all
-block_refuses d path env now body i s p (refused.Fault fault) all within item same is before = block_fault d path env body i s p fault all within item (ap (λ (b : Bindings). run d path (events_of s b) p) (sym same) ∙ is) before
+pub block_refuses : (d : Design) (path : Path) (env now : Bindings) (body : List Stmt) (i : ℕ) (s : Stmt) (p : Progress) (stop : Refused) (all : Result Progress Fault)
+    → i < length body → s ≡ get_or body i s → now ≡ env → Refuses stop (run d path (events_of s now) p) → run d path (events (drop i body) env) p ≡ all → Refuses stop all
+block_refuses d path env now body i s p (refused.Fault fault) all within item same is before = block_fault d path env body i s p fault all within item
+    (ap (λ (b : Bindings). run d path (events_of s b) p) (sym same) ∙ is) before
 block_refuses d path env now body i s p refused.NoMemory all within item same is before = tt
 
 -- ---- a turn
 
-pub turn_runs : (d : Design) (path : Path) (line n m : ℕ) (v : List ℕ) (body : List Stmt) (env now : Bindings) (i : ℤ) (e : Elaborating) → counted_on path line n ≡ Ok m → now ≡ (v, i) ∷ env → run d path (turn line v (map events_of body) env i) (n, e) ≡ run d path (events body now) (m, e)
+pub turn_runs : (d : Design) (path : Path) (line n m : ℕ) (v : List ℕ) (body : List Stmt) (env now : Bindings) (i : ℤ) (e : Elaborating) → counted_on path line n ≡ Ok m
+    → now ≡ (v, i) ∷ env → run d path (turn line v (map events_of body) env i) (n, e) ≡ run d path (events body now) (m, e)
 turn_runs d path line n m v body env now i e counts binds =
     ap (λ (r : Result ℕ Fault). and_then (and_then r (λ k. Ok (k, e))) (run d path (block (map events_of body) ((v, i) ∷ env)))) counts
     ∙ ap (λ (es : Events). run d path es (m, e)) (block_events body ((v, i) ∷ env))
@@ -119,7 +136,8 @@ turn_runs d path line n m v body env now i e counts binds =
 
 -- ---- a whole call
 
-opened_ok : (d : Design) (path : Path) (c : CircuitText) (args : List ℤ) (e : Elaborating) (ws : PortWidths) → opened_with path c ws ≡ Ok e → after_heads d path c args ws ≡ elaborated d path (counted 0 (events c.body (parameters c args))) e
+opened_ok : (d : Design) (path : Path) (c : CircuitText) (args : List ℤ) (e : Elaborating) (ws : PortWidths) → opened_with path c ws ≡ Ok e
+    → after_heads d path c args ws ≡ elaborated d path (counted 0 (events c.body (parameters c args))) e
 opened_ok d path c args e (Err f) is = absurd cc
 opened_ok d path c args e (Ok ws) is = let same : open_heads c.heads ws nothing ≡ e = cc in ap (elaborated d path (counted 0 (events c.body (parameters c args)))) same
 
@@ -131,17 +149,22 @@ pub not_opened : (d : Design) (path : Path) (c : CircuitText) (args : List ℤ) 
 not_opened d path c args (refused.Fault fault) is = opened_err d path c args fault (port_widths c args) is
 not_opened d path c args refused.NoMemory is = tt
 
-pub runs_all : (d : Design) (path : Path) (c : CircuitText) (args : List ℤ) (e : Elaborating) (env : Bindings) (n : ℕ) (stmts : List Stmt) (r : Result Progress Fault) → opened path c args ≡ Ok e → env ≡ parameters c args → n ≡ 0 → stmts ≡ c.body → run d path (events stmts env) (n, e) ≡ r → call_elaborated d path c args ≡ drawn r
+pub runs_all : (d : Design) (path : Path) (c : CircuitText) (args : List ℤ) (e : Elaborating) (env : Bindings) (n : ℕ) (stmts : List Stmt) (r : Result Progress Fault)
+    → opened path c args ≡ Ok e → env ≡ parameters c args → n ≡ 0 → stmts ≡ c.body → run d path (events stmts env) (n, e) ≡ r → call_elaborated d path c args ≡ drawn r
 runs_all d path c args e env n stmts r is binds none whole runs =
     opened_ok d path c args e (port_widths c args) is
     ∙ run_unrolled d path (events c.body (parameters c args)) 0 e
-    ∙ ap drawn (ap (λ (b : Bindings). run d path (events c.body b) (0, e)) (sym binds) ∙ ap (λ (k : ℕ). run d path (events c.body env) (k, e)) (sym none) ∙ ap (λ (l : List Stmt). run d path (events l env) (n, e)) (sym whole) ∙ runs)
+    ∙ ap drawn (ap (λ (b : Bindings). run d path (events c.body b) (0, e)) (sym binds) ∙ ap (λ (k : ℕ). run d path (events c.body env) (k, e)) (sym none)
+    ∙ ap (λ (l : List Stmt). run d path (events l env) (n, e)) (sym whole) ∙ runs)
 
-pub refuses_all : (d : Design) (path : Path) (c : CircuitText) (args : List ℤ) (e : Elaborating) (env : Bindings) (n : ℕ) (stmts : List Stmt) (stop : Refused) → opened path c args ≡ Ok e → env ≡ parameters c args → n ≡ 0 → stmts ≡ c.body → Refuses stop (run d path (events stmts env) (n, e)) → Refuses stop (call_elaborated d path c args)
+pub refuses_all : (d : Design) (path : Path) (c : CircuitText) (args : List ℤ) (e : Elaborating) (env : Bindings) (n : ℕ) (stmts : List Stmt) (stop : Refused)
+    → opened path c args ≡ Ok e → env ≡ parameters c args → n ≡ 0 → stmts ≡ c.body → Refuses stop (run d path (events stmts env) (n, e))
+    → Refuses stop (call_elaborated d path c args)
 refuses_all d path c args e env n stmts (refused.Fault fault) is binds none whole runs = runs_all d path c args e env n stmts (Err fault) is binds none whole runs
 refuses_all d path c args e env n stmts refused.NoMemory is binds none whole runs = tt
 
-pub counts_all : (d : Design) (path : Path) (c : CircuitText) (args : List ℤ) (e f : Elaborating) (env : Bindings) (n m : ℕ) (stmts : List Stmt) → env ≡ parameters c args → n ≡ 0 → stmts ≡ c.body → run d path (events stmts env) (n, e) ≡ Ok (m, f) → m ≡ (unrolled c.body (parameters c args)).count
+pub counts_all : (d : Design) (path : Path) (c : CircuitText) (args : List ℤ) (e f : Elaborating) (env : Bindings) (n m : ℕ) (stmts : List Stmt) → env ≡ parameters c args
+    → n ≡ 0 → stmts ≡ c.body → run d path (events stmts env) (n, e) ≡ Ok (m, f) → m ≡ (unrolled c.body (parameters c args)).count
 counts_all d path c args e f env n m stmts binds none whole runs =
     let count : m ≡ n + count_of (events c.body env) = run_counts d path (events c.body env) (n, e) (m, f) (ap (λ (l : List Stmt). run d path (events l env) (n, e)) (sym whole) ∙ runs) in
     let same : count_of (events c.body env) ≡ count_of (events c.body (parameters c args)) = ap (λ (b : Bindings). count_of (events c.body b)) binds in

@@ -112,7 +112,8 @@ module _ (d : Design) (ports : Ports) where
 
   -- a label of an instance
   pub instance_label_keeps : (broken : Graph → Option FaultKind) (id : InstId) (w : List ℕ) → Keeps (change broken (λ g. with_instance_label g id w))
-  instance_label_keeps broken id w = change_keeps broken (λ g. with_instance_label g id w) (λ e s. record { has_ports = s.has_ports; matched = matched_labelled d w id.0 e.children e.graph.instances s.matched })
+  instance_label_keeps broken id w = change_keeps broken (λ g. with_instance_label g id w)
+      (λ e s. record { has_ports = s.has_ports; matched = matched_labelled d w id.0 e.children e.graph.instances s.matched })
 
   -- ---- names
 
@@ -146,7 +147,8 @@ module _ (d : Design) (ports : Ports) where
   let_keeps p s = then_keeps (given_keeps (key p)) (λ k. then_keeps (signal_keeps s) (λ id. define_keeps k (target.Node id)))
 
   wire_keeps : (line : ℕ) (p : Place) (width : Outcome) → Keeps (wire_step line p width)
-  wire_keeps line p width = then_keeps (given_keeps (key p)) (λ k. then_keeps (given_keeps (and_then width as_width)) (λ w. then_keeps (is_new_keeps k) (λ _. then_keeps (draw_keeps (wire_frames w)) (λ id. then_keeps (declare_keeps id line) (λ _. bind_keeps k (target.Node id))))))
+  wire_keeps line p width = then_keeps (given_keeps (key p)) (λ k. then_keeps (given_keeps (and_then width as_width))
+      (λ w. then_keeps (is_new_keeps k) (λ _. then_keeps (draw_keeps (wire_frames w)) (λ id. then_keeps (declare_keeps id line) (λ _. bind_keeps k (target.Node id))))))
 
   drive_keeps : (id from : NodeId) → Keeps (drive id from)
   drive_keeps id from = rows_keep (λ g. drive_rule (width_at g id) (width_at g from) (is_driven_at g id)) (λ g. with_driver g id from) (λ g. record { ports = refl; instances = refl })
@@ -174,18 +176,26 @@ module _ (d : Design) (ports : Ports) where
   clear_keeps c = then_keeps (signal_keeps c.0) (λ id. then_keeps (given_keeps c.1) (λ n. answer_keeps (id, n)))
 
   reg_keeps : (p : Place) (s : Signal) (e : Option Signal) (c : Option (Signal × Outcome)) (n : Option Outcome) → Keeps (reg_step p s e c n)
-  reg_keeps p s e c n = then_keeps (given_keeps (key p)) (λ k. then_keeps (signal_keeps s) (λ next. then_keeps (optional_keeps signal_node e signal_keeps) (λ enable. then_keeps (optional_keeps clear_part c clear_keeps) (λ clear. then_keeps (optional_keeps given n given_keeps) (λ first. then_keeps (is_new_keeps k) (λ _. then_keeps (draw_keeps (register_frames next enable clear first)) (λ id. bind_keeps k (target.Node id))))))))
+  reg_keeps p s e c n = then_keeps (given_keeps (key p)) (λ k. then_keeps (signal_keeps s)
+      (λ next. then_keeps (optional_keeps signal_node e signal_keeps)
+      (λ enable. then_keeps (optional_keeps clear_part c clear_keeps)
+      (λ clear. then_keeps (optional_keeps given n given_keeps) (λ first. then_keeps (is_new_keeps k)
+      (λ _. then_keeps (draw_keeps (register_frames next enable clear first)) (λ id. bind_keeps k (target.Node id))))))))
 
   -- ---- memories
 
   memory_keeps : (p : Place) (size width : Outcome) → Keeps (memory_step p size width)
-  memory_keeps p size width = then_keeps (given_keeps (key p)) (λ k. then_keeps (given_keeps size) (λ n. then_keeps (given_keeps width) (λ z. then_keeps (given_keeps (as_width z)) (λ w. then_keeps (is_new_keeps k) (λ _. then_keeps (draw_keeps (new_memory_frames n w)) (λ id. bind_keeps k (target.Memory id)))))))
+  memory_keeps p size width = then_keeps (given_keeps (key p))
+      (λ k. then_keeps (given_keeps size) (λ n. then_keeps (given_keeps width)
+      (λ z. then_keeps (given_keeps (as_width z)) (λ w. then_keeps (is_new_keeps k) (λ _. then_keeps (draw_keeps (new_memory_frames n w)) (λ id. bind_keeps k (target.Memory id)))))))
 
   write_keeps : (id : MemId) (enable addr value : NodeId) → Keeps (write id enable addr value)
-  write_keeps id enable addr value = rows_keep (λ g. write_rule (width_at g enable) (width_at g value) (memory_width_at g id)) (λ g. with_write g id (record { enable = enable; addr = addr; value = value })) (λ g. record { ports = refl; instances = refl })
+  write_keeps id enable addr value = rows_keep (λ g. write_rule (width_at g enable) (width_at g value) (memory_width_at g id))
+      (λ g. with_write g id (record { enable = enable; addr = addr; value = value })) (λ g. record { ports = refl; instances = refl })
 
   write_step_keeps : (p : Place) (e a v : Signal) → Keeps (write_step p e a v)
-  write_step_keeps p e a v = then_keeps (given_keeps (key p)) (λ k. then_keeps (memory_named_keeps k) (λ id. then_keeps (signal_keeps e) (λ enable. then_keeps (signal_keeps a) (λ addr. then_keeps (signal_keeps v) (λ value. write_keeps id enable addr value)))))
+  write_step_keeps p e a v = then_keeps (given_keeps (key p)) (λ k. then_keeps (memory_named_keeps k)
+      (λ id. then_keeps (signal_keeps e) (λ enable. then_keeps (signal_keeps a) (λ addr. then_keeps (signal_keeps v) (λ value. write_keeps id enable addr value)))))
 
   -- ---- instances
 
@@ -193,7 +203,8 @@ module _ (d : Design) (ports : Ports) where
   has_width_keeps ins at id = state_keeps (λ e. rule WidthMismatch (fits e.graph ins at id)) (λ e. rule_keeps WidthMismatch (fits e.graph ins at id))
 
   connect_keeps : (ins : List Port) (done : Connected) (c : Text × Signal) → Keeps (connect ins done c)
-  connect_keeps ins done c = then_keeps (signal_keeps c.1) (λ id. then_keeps (given_keeps (open_place ins done c.0)) (λ at. then_keeps (has_width_keeps ins at id) (λ _. answer_keeps (slice_set done at (Some id)))))
+  connect_keeps ins done c = then_keeps (signal_keeps c.1) (λ id. then_keeps (given_keeps (open_place ins done c.0))
+      (λ at. then_keeps (has_width_keeps ins at id) (λ _. answer_keeps (slice_set done at (Some id)))))
 
   connections_keep : (ins : List Port) (done : Connected) (cs : List (Text × Signal)) → Keeps (connections ins done cs)
   connections_keep ins done [] = answer_keeps done
@@ -206,20 +217,31 @@ module _ (d : Design) (ports : Ports) where
   abbrev added : Key → ℕ → Call → Ports → List NodeId → Elaborating → Elaborating × Unit {0}
   added k line call of inputs e = (
     record e {
-      graph = record e.graph { nodes = e.graph.nodes ++ output_rows (length e.graph.instances) 0 of.outputs; instances = e.graph.instances ++ record { ports = of; conns = inputs; label = None } ∷ [] };
+      graph = record e.graph {
+        nodes = e.graph.nodes ++ output_rows (length e.graph.instances) 0 of.outputs;
+        instances = e.graph.instances
+            ++ record { ports = of; conns = inputs; label = None } ∷ [];
+      };
       children = e.children ++ record { call = call; ident = ident_of k; line = line } ∷ [];
       names = e.names ++ (k, target.Instance (next_instance e.graph)) ∷ [];
     },
     tt,
   )
 
-  placed_keeps : (k : Key) (line : ℕ) (call : Call) (of : Ports) (inputs : List NodeId) → ((it : Instance) → it.ports ≡ of → (child : Child) → child.call ≡ call → Fits d child it) → Keeps (placed k line call of inputs)
+  placed_keeps : (k : Key) (line : ℕ) (call : Call) (of : Ports) (inputs : List NodeId)
+      → ((it : Instance) → it.ports ≡ of → (child : Child) → child.call ≡ call → Fits d child it) → Keeps (placed k line call of inputs)
   placed_keeps k line call of inputs fit = then_keeps (is_new_keeps k) (λ _. done_keeps (added k line call of inputs) kept)
     where
       kept : (e : Elaborating) → Sound e → Sound (added k line call of inputs e).0
-      kept e s = record { has_ports = s.has_ports; matched = matched_last d e.children e.graph.instances (record { call = call; ident = ident_of k; line = line }) (record { ports = of; conns = inputs; label = None }) s.matched (fit (record { ports = of; conns = inputs; label = None }) refl (record { call = call; ident = ident_of k; line = line }) refl) }
+      kept e s = record {
+        has_ports = s.has_ports;
+        matched = matched_last d e.children e.graph.instances (record { call = call; ident = ident_of k; line = line })
+            (record { ports = of; conns = inputs; label = None }) s.matched
+            (fit (record { ports = of; conns = inputs; label = None }) refl (record { call = call; ident = ident_of k; line = line }) refl);
+      }
 
-  fit_call : (c : CircuitText) (call : Call) (widths : List ℕ) → IsCallOf d call c → port_widths c call.args ≡ Ok widths → (it : Instance) → it.ports ≡ ports_of c.heads widths → (child : Child) → child.call ≡ call → Fits d child it
+  fit_call : (c : CircuitText) (call : Call) (widths : List ℕ) → IsCallOf d call c → port_widths c call.args ≡ Ok widths → (it : Instance)
+      → it.ports ≡ ports_of c.heads widths → (child : Child) → child.call ≡ call → Fits d child it
   fit_call c call widths is have it ports child same = record {
     circuit = c;
     is_call = subst (λ (x : Call). IsCallOf d x c) (sym same) is;
@@ -228,11 +250,13 @@ module _ (d : Design) (ports : Ports) where
     ports = ports;
   }
 
-  instantiated_keeps : (k : Key) (line place : ℕ) (c : CircuitText) (args : List ℤ) (conns : List (Text × Signal)) → IsCallOf d (record { circuit = place; args = args }) c → Keeps (instantiated k line place c args conns)
+  instantiated_keeps : (k : Key) (line place : ℕ) (c : CircuitText) (args : List ℤ) (conns : List (Text × Signal))
+      → IsCallOf d (record { circuit = place; args = args }) c → Keeps (instantiated k line place c args conns)
   instantiated_keeps k line place c args conns is = by (port_widths c args) refl
     where
       with_call : (widths : List ℕ) → port_widths c args ≡ Ok widths → Keeps (with_widths k line place c args conns widths)
-      with_call widths have = then_keeps (connected_keeps (inputs_of c.heads widths) conns) (λ inputs. placed_keeps k line (record { circuit = place; args = args }) (ports_of c.heads widths) inputs (fit_call c (record { circuit = place; args = args }) widths is have))
+      with_call widths have = then_keeps (connected_keeps (inputs_of c.heads widths) conns)
+          (λ inputs. placed_keeps k line (record { circuit = place; args = args }) (ports_of c.heads widths) inputs (fit_call c (record { circuit = place; args = args }) widths is have))
 
       by : (r : PortWidths) → port_widths c args ≡ r → Keeps (widths_of k r >>= with_widths k line place c args conns)
       by (Err f) have = record { kept = λ e g y s is. absurd cc }
@@ -257,7 +281,10 @@ module _ (d : Design) (ports : Ports) where
       by (Some c) is e = let same : (at, c) ≡ x = cc in subst (λ (y : ℕ × CircuitText). slice_get d.circuits y.0 ≡ Some y.1) same is
 
   inst_keeps : (line : ℕ) (p : Place) (of : Text) (ns : List Outcome) (conns : List (Text × Signal)) → Keeps (inst_step d line p of ns conns)
-  inst_keeps line p of ns conns = then_keeps (given_keeps (key p)) (λ k. given_then_keeps (circuit_at d (circuit_place d.circuits of)) (λ c there. given_then_keeps (arguments c.1 ns) (λ args count. instantiated_keeps k line c.0 c.1 args conns (record { there = circuit_there (circuit_place d.circuits of) c there; args = arguments_count c.1 ns args count }))))
+  inst_keeps line p of ns conns = then_keeps (given_keeps (key p))
+      (λ k. given_then_keeps (circuit_at d (circuit_place d.circuits of))
+      (λ c there. given_then_keeps (arguments c.1 ns) (λ args count. instantiated_keeps k line c.0 c.1 args conns
+      (record { there = circuit_there (circuit_place d.circuits of) c there; args = arguments_count c.1 ns args count }))))
 
   pub statement_keeps : (line : ℕ) (s : Statement) → Keeps (statement_step d line s)
   statement_keeps line (Let p s) = let_keeps p s

@@ -19,15 +19,18 @@ same_number : (a b : ℕ) → (a == b) ≡ true → a ≡ b
 same_number a b t = grind arith
 
 module _ (d : Design) (call : Call) where
-  with_args : (line place : ℕ) (c : CircuitText) (r : Result (List ℤ) FaultKind) → slice_get d.circuits place ≡ Some c → ((zs : List ℤ) → r ≡ Ok zs → length zs ≡ length c.params) → called_with line place r ≡ Ok call → IsCall d call
+  with_args : (line place : ℕ) (c : CircuitText) (r : Result (List ℤ) FaultKind) → slice_get d.circuits place ≡ Some c
+      → ((zs : List ℤ) → r ≡ Ok zs → length zs ≡ length c.params) → called_with line place r ≡ Ok call → IsCall d call
   with_args line place c (Err kind) there many e = absurd cc
   with_args line place c (Ok zs) there many e =
       let is : record { circuit = place; args = zs } ≡ call = cc in
       subst (λ (x : Call). IsCall d x) is (c, record { there = there; args = many zs refl })
 
-  with_count : (t : TopLine) (place : ℕ) (c : CircuitText) (b : Bool) → (length t.args == length c.params) ≡ b → slice_get d.circuits place ≡ Some c → (if b then called_with t.line place (numbers (map (number []) t.args)) else Err (fault_at top_path ArgCount t.line)) ≡ Ok call → IsCall d call
+  with_count : (t : TopLine) (place : ℕ) (c : CircuitText) (b : Bool) → (length t.args == length c.params) ≡ b → slice_get d.circuits place ≡ Some c
+      → (if b then called_with t.line place (numbers (map (number []) t.args)) else Err (fault_at top_path ArgCount t.line)) ≡ Ok call → IsCall d call
   with_count t place c false count there e = absurd cc
-  with_count t place c true count there e = with_args t.line place c (numbers (map (number []) t.args)) there (λ zs is. values_count [] t.args zs (length c.params) is (same_number (length t.args) (length c.params) count)) e
+  with_count t place c true count there e = with_args t.line place c (numbers (map (number []) t.args)) there
+      (λ zs is. values_count [] t.args zs (length c.params) is (same_number (length t.args) (length c.params) count)) e
 
   with_circuit : (t : TopLine) (place : ℕ) (o : Option CircuitText) → slice_get d.circuits place ≡ o → counted t place o ≡ Ok call → IsCall d call
   with_circuit t place None there e = absurd cc

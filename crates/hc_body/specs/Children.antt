@@ -12,4 +12,5 @@ use Rattle.hc_body.specs.BodyOf.{IsCall, IsCallOf}
 pub record AreChildrenOf (d : Design) (b : Body) : Type 0 where
   pub many : length b.children ≡ length b.circuit.instances
   pub calls : (i : ℕ) (child : Child) → slice_get b.children i ≡ Some child → IsCall d child.call
-  pub ports : (i : ℕ) (child : Child) (it : Instance) (c : CircuitText) → slice_get b.children i ≡ Some child → slice_get b.circuit.instances i ≡ Some it → IsCallOf d child.call c → (widths : List ℕ) × (port_widths c child.call.args ≡ Ok widths) × (it.ports ≡ ports_of c.heads widths)
+  pub ports : (i : ℕ) (child : Child) (it : Instance) (c : CircuitText) → slice_get b.children i ≡ Some child → slice_get b.circuit.instances i ≡ Some it
+      → IsCallOf d child.call c → (widths : List ℕ) × (port_widths c child.call.args ≡ Ok widths) × (it.ports ≡ ports_of c.heads widths)

@@ -61,7 +61,8 @@ counted_by : (r : Renumbering) (o : Option NodeRow) (n : ℕ) → counted (optio
 counted_by r None n = refl
 counted_by r (Some row) n = go row.node
   where
-    go : (x : Node) → counted (Some (record { width = row.width; node = node_by r x; label = row.label })) (r.node n) ≡ map r.node (counted (Some (record { width = row.width; node = x; label = row.label })) n)
+    go : (x : Node) → counted (Some (record { width = row.width; node = node_by r x; label = row.label })) (r.node n) ≡ map r.node
+        (counted (Some (record { width = row.width; node = x; label = row.label })) n)
     go (Input port) = refl
     go (Wire driver) = refl
     go (Const value) = refl
@@ -267,7 +268,8 @@ module _ (to back : Renumbering) (g h : Graph) (e : IsIsomorphism to back g h) (
       sym (ap (λ i. count_from i (length h.nodes - i)) same_inputs) ∙ sym ch.nodes.1 ∙ ap (nodes_met h) ends
       ∙ nodes_met_by to back g h e cg.end (walk_sound g cg.walk) ∙ ap (map to.node) cg.nodes.1
 
-  node_map : (length h.nodes - length g.ports.inputs ≡ length g.nodes - length g.ports.inputs) × ((k : ℕ) → Has (count_from (length g.ports.inputs) (length g.nodes - length g.ports.inputs)) k → to.node k ≡ k)
+  node_map : (length h.nodes - length g.ports.inputs ≡ length g.nodes - length g.ports.inputs)
+      × ((k : ℕ) → Has (count_from (length g.ports.inputs) (length g.nodes - length g.ports.inputs)) k → to.node k ≡ k)
   node_map = map_count to.node (length g.ports.inputs) (length g.nodes - length g.ports.inputs) (length h.nodes - length g.ports.inputs) node_counts
 
   mem_map : (length h.memories ≡ length g.memories) × ((k : ℕ) → Has (count_from 0 (length g.memories)) k → to.mem k ≡ k)
@@ -342,7 +344,13 @@ module _ (to back : Renumbering) (g h : Graph) (e : IsIsomorphism to back g h) (
 
   -- isomorphic canonical graphs are equal, and each instance keeps its number
   pub canonical_once : h ≡ g
-  canonical_once = λ i. record { ports = e.ports i; outputs = same_outputs i; nodes = ext_slice h.nodes g.nodes node_row i; memories = ext_slice h.memories g.memories mem_row i; instances = ext_slice h.instances g.instances inst_row i }
+  canonical_once = λ i. record {
+    ports = e.ports i;
+    outputs = same_outputs i;
+    nodes = ext_slice h.nodes g.nodes node_row i;
+    memories = ext_slice h.memories g.memories mem_row i;
+    instances = ext_slice h.instances g.instances inst_row i;
+  }
 
   pub instance_stays : (k : ℕ) → Reached g (inst k) → to.inst k ≡ k
   instance_stays k r = ap number (vertex_fixed (inst k) r)

@@ -48,7 +48,8 @@ picked_known : {X : Type 0} (xs : List X) (ns : List ℕ) (x : X) → Has (picke
 picked_known xs [] x h = elim h [ ]
 picked_known xs (n ∷ ns) x h = picked_one xs (picked (λ y. y) xs ns) n x (slice_get xs n) refl (picked_known xs ns x) h
 
-module _ (g : Graph) (l : IsLawful g) (ch : IsChecked g) (end : List Vertex) (w : NumbersTo g end) (to : Renumbering) (are : AreNumbers g end to) (ids : List EntryId) (many : length ids ≡ length g.instances) where
+module _ (g : Graph) (l : IsLawful g) (ch : IsChecked g) (end : List Vertex) (w : NumbersTo g end) (to : Renumbering) (are : AreNumbers g end to) (ids : List EntryId)
+    (many : length ids ≡ length g.instances) where
   abbrev made : FormView
   made = record { circuit = laid_out g end to; kids = picked (λ id. id) ids (instances_met end) }
 
@@ -74,7 +75,8 @@ module _ (g : Graph) (l : IsLawful g) (ch : IsChecked g) (end : List Vertex) (w 
   pub form_made : (circuit : Graph) (kids : List EntryId) → circuit ≡ laid_out g end to → kids ≡ picked (λ id. id) ids (instances_met end) → IsForm (record { circuit = circuit; kids = kids })
   form_made circuit kids a b = let e : made ≡ record { circuit = circuit; kids = kids } = (λ i. record { circuit = sym a i; kids = sym b i }) in subst IsForm e makes_form
 
-  pub form_is_canon : (circuit : Graph) (kids : List EntryId) (form : FormView) → circuit ≡ laid_out g end to → kids ≡ picked (λ id. id) ids (instances_met end) → form ≡ record { circuit = circuit; kids = kids } → IsCanonOf g ids form
+  pub form_is_canon : (circuit : Graph) (kids : List EntryId) (form : FormView) → circuit ≡ laid_out g end to → kids ≡ picked (λ id. id) ids (instances_met end)
+      → form ≡ record { circuit = circuit; kids = kids } → IsCanonOf g ids form
   form_is_canon circuit kids form a b c = let e : made ≡ record { circuit = circuit; kids = kids } = (λ i. record { circuit = sym a i; kids = sym b i }) in subst (IsCanonOf g ids) (e ∙ sym c) is_canon
 
 -- the lists of the circuit, made one by one

@@ -59,7 +59,8 @@ module _ (g h : Graph) (ids others : List EntryId) (a b : FormView) (ca : IsCano
         | inl l ↦ (let x : _ = kid_from g ids a ca k l in
             let r : Reached h (inst (s.0.inst (ca.back.inst k))) = reached_to s.0 s.1 g h s.2 x.0 in
             let e : cb.to.inst (s.0.inst (ca.back.inst k)) ≡ k =
-            instance_stays (then (then ca.back s.0) cb.to) (then cb.back (then s.1 ca.to)) a.circuit b.circuit across ca.form.canonical cb.form.canonical k (reached_inst a.circuit ca.form.canonical k l) in
+            instance_stays (then (then ca.back s.0) cb.to) (then cb.back (then s.1 ca.to)) a.circuit b.circuit across ca.form.canonical cb.form.canonical k
+            (reached_inst a.circuit ca.form.canonical k l) in
             ap (slice_get b.kids) (sym e) ∙ cb.kids (s.0.inst (ca.back.inst k)) r ∙ s.3 (ca.back.inst k) x.0 ∙ sym x.2)
         | inr m ↦ (let p : length a.kids ≤ k = (let f : length a.kids ≡ length a.circuit.instances = ca.form.kids in omega (arith, f, m)) in
             let q : length b.kids ≤ k = (let f : length b.kids ≡ length b.circuit.instances = cb.form.kids in omega (arith, f, m, same_count)) in

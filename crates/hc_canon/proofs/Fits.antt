@@ -28,7 +28,8 @@ count_length (suc n) a = ap suc (count_length n (suc a))
 
 below_many : (xs : List ℕ) (n : ℕ) → AllDifferent xs → Below xs n → length xs ≤ n
 below_many xs n d b =
-    let r : length xs ≤ length (count_from 0 n) = no_more xs (count_from 0 n) d (λ z h. (let c : z < n = b z h in let e : z < 0 + n = omega (arith, c) in let f : 0 ≤ z = omega arith in count_has n 0 z f e)) in
+    let r : length xs ≤ length (count_from 0 n) = no_more xs (count_from 0 n) d
+    (λ z h. (let c : z < n = b z h in let e : z < 0 + n = omega (arith, c) in let f : 0 ≤ z = omega arith in count_has n 0 z f e)) in
     subst (λ m. length xs ≤ m) (count_length n 0) r
 
 map_differs : (f g : ℕ → ℕ) (n a : ℕ) → ((k : ℕ) → k < a + n → g (f k) ≡ k) → AllDifferent (map f (count_from a n))
@@ -47,7 +48,8 @@ map_differs f g (suc n) a h = (
 
 module _ (g : Graph) (l : IsLawful g) (end : List Vertex) (w : NumbersTo g end) where
   abbrev pub to : Renumbering
-  to = by_tables (numbered (map input_number g.nodes) (length g.ports.inputs) (nodes_met g end)) (numbered (replicate (length g.memories) 0) 0 (memories_met end)) (numbered (replicate (length g.instances) 0) 0 (instances_met end))
+  to = by_tables (numbered (map input_number g.nodes) (length g.ports.inputs) (nodes_met g end)) (numbered (replicate (length g.memories) 0) 0 (memories_met end))
+      (numbered (replicate (length g.instances) 0) 0 (instances_met end))
 
   pub are : AreNumbers g end to
   are = are_numbers g l end w _ _ _ refl refl refl

@@ -119,7 +119,8 @@ pub isomorphism_then : (to back out home : Renumbering) (g h k : Graph) → IsIs
 isomorphism_then to back out home g h k e f = record {
   ports = f.ports ∙ e.ports;
   outputs = f.outputs ∙ ap (map (id_by out)) e.outputs ∙ ids_then to out g.outputs;
-  one_to_one = λ p r. sym (renumber_then home back (renumber (then to out) p)) ∙ ap (λ q. renumber back (renumber home q)) (sym (renumber_then to out p)) ∙ ap (renumber back) (f.one_to_one (renumber to p) (reached_to to back g h e r)) ∙ e.one_to_one p r;
+  one_to_one = λ p r. sym (renumber_then home back (renumber (then to out) p)) ∙ ap (λ q. renumber back (renumber home q)) (sym (renumber_then to out p))
+      ∙ ap (renumber back) (f.one_to_one (renumber to p) (reached_to to back g h e r)) ∙ e.one_to_one p r;
   nodes = λ n r. f.nodes (to.node n) (reached_to to back g h e r) ∙ ap (option_map (row_by out)) (e.nodes n r) ∙ row_then to out (slice_get g.nodes n);
   memories = λ m r. f.memories (to.mem m) (reached_to to back g h e r) ∙ ap (option_map (memory_by out)) (e.memories m r) ∙ memory_then to out (slice_get g.memories m);
   instances = λ i r. f.instances (to.inst i) (reached_to to back g h e r) ∙ ap (option_map (instance_by out)) (e.instances i r) ∙ instance_then to out (slice_get g.instances i);
@@ -158,7 +159,8 @@ module _ (to back : Renumbering) (g h : Graph) (e : IsIsomorphism to back g h) w
   memories_back n (mem k) r q =
       subst (λ m. slice_get g.memories (back.mem m) ≡ option_map (memory_by back) (slice_get h.memories m)) (ap number q)
       (ap (slice_get g.memories) (ap number (e.one_to_one (mem k) r))
-      ∙ sym (ap (option_map (memory_by back)) (e.memories k r) ∙ memory_then to back (slice_get g.memories k) ∙ memory_fixed (then to back) (slice_get g.memories k) (fanin_fixed to back g h e (mem k) r)))
+      ∙ sym (ap (option_map (memory_by back)) (e.memories k r) ∙ memory_then to back (slice_get g.memories k) ∙ memory_fixed (then to back) (slice_get g.memories k)
+      (fanin_fixed to back g h e (mem k) r)))
   memories_back n (node k) r q = cc
   memories_back n (inst k) r q = cc
 
@@ -166,7 +168,8 @@ module _ (to back : Renumbering) (g h : Graph) (e : IsIsomorphism to back g h) w
   instances_back n (inst k) r q =
       subst (λ m. slice_get g.instances (back.inst m) ≡ option_map (instance_by back) (slice_get h.instances m)) (ap number q)
       (ap (slice_get g.instances) (ap number (e.one_to_one (inst k) r))
-      ∙ sym (ap (option_map (instance_by back)) (e.instances k r) ∙ instance_then to back (slice_get g.instances k) ∙ instance_fixed (then to back) (slice_get g.instances k) (fanin_fixed to back g h e (inst k) r)))
+      ∙ sym (ap (option_map (instance_by back)) (e.instances k r) ∙ instance_then to back (slice_get g.instances k) ∙ instance_fixed (then to back) (slice_get g.instances k)
+      (fanin_fixed to back g h e (inst k) r)))
   instances_back n (node k) r q = cc
   instances_back n (mem k) r q = cc
 

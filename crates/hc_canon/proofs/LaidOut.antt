@@ -137,7 +137,8 @@ module _ (g : Graph) (l : IsLawful g) (end : List Vertex) (w : NumbersTo g end) 
   home_input n k a b (inl c) = l.one_input (l.inputs k c).0 n k (l.inputs k c).1 a
   home_input n k a b (inr c) = absurd (omega (arith, b, c))
 
-  home_node : (i n : ℕ) → slice_get (nodes_met g end) i ≡ Some n → (d : (length g.ports.inputs + i < length g.ports.inputs) ⊎ (length g.ports.inputs ≤ length g.ports.inputs + i)) → home (length g.ports.inputs + i) d ≡ n
+  home_node : (i n : ℕ) → slice_get (nodes_met g end) i ≡ Some n
+      → (d : (length g.ports.inputs + i < length g.ports.inputs) ⊎ (length g.ports.inputs ≤ length g.ports.inputs + i)) → home (length g.ports.inputs + i) d ≡ n
   home_node i n e (inl c) = absurd (omega (arith, c))
   home_node i n e (inr c) = (let q : length g.ports.inputs + i - length g.ports.inputs ≡ i = omega arith in ap (nth (nodes_met g end)) q) ∙ ap (λ o. unwrap_or o 0) e
 
@@ -145,7 +146,8 @@ module _ (g : Graph) (l : IsLawful g) (end : List Vertex) (w : NumbersTo g end) 
   pub node_there : (m : ℕ) → m < length g.ports.inputs + length (nodes_met g end) → (to.node (back.node m) ≡ m) × (back.node m < length g.nodes)
   node_there m b = go (two m (length g.ports.inputs))
     where
-      counted : (k : ℕ) → m ≡ length g.ports.inputs + k → k < length (nodes_met g end) → (o : Option ℕ) → slice_get (nodes_met g end) k ≡ o → (to.node (unwrap_or o 0) ≡ m) × (unwrap_or o 0 < length g.nodes)
+      counted : (k : ℕ) → m ≡ length g.ports.inputs + k → k < length (nodes_met g end) → (o : Option ℕ) → slice_get (nodes_met g end) k ≡ o
+          → (to.node (unwrap_or o 0) ≡ m) × (unwrap_or o 0 < length g.nodes)
       counted k e c (Some n) q = let x : _ = all_nodes n (has_slice (nodes_met g end) k n q) in (are.nodes k n q ∙ sym e, slice_get_within g.nodes n x.0 x.1)
       counted k e c None q = absurd (some_within (nodes_met g end) k q c)
 
@@ -173,8 +175,10 @@ module _ (g : Graph) (l : IsLawful g) (end : List Vertex) (w : NumbersTo g end) 
 
   vertices_back : (p : Vertex) → Reached g p → renumber back (renumber to p) ≡ p
   vertices_back (node n) r = ap node (node_back n r)
-  vertices_back (mem n) r = let at : (i : ℕ) × (slice_get (memories_met end) i ≡ Some n) = memory_index n r in ap mem (ap (nth (memories_met end)) (are.memories at.0 n at.1) ∙ ap (λ o. unwrap_or o 0) at.1)
-  vertices_back (inst n) r = let at : (i : ℕ) × (slice_get (instances_met end) i ≡ Some n) = instance_index n r in ap inst (ap (nth (instances_met end)) (are.instances at.0 n at.1) ∙ ap (λ o. unwrap_or o 0) at.1)
+  vertices_back (mem n) r = let at : (i : ℕ) × (slice_get (memories_met end) i ≡ Some n) = memory_index n r
+      in ap mem (ap (nth (memories_met end)) (are.memories at.0 n at.1) ∙ ap (λ o. unwrap_or o 0) at.1)
+  vertices_back (inst n) r = let at : (i : ℕ) × (slice_get (instances_met end) i ≡ Some n) = instance_index n r
+      in ap inst (ap (nth (instances_met end)) (are.instances at.0 n at.1) ∙ ap (λ o. unwrap_or o 0) at.1)
 
   -- the row of an input
   input_same : (k : ℕ) (row : NodeRow) (p : Port) → row.node ≡ Input k → row.label ≡ None → p.width ≡ row.width → input_row p k ≡ row_by to row
@@ -224,6 +228,8 @@ module _ (g : Graph) (l : IsLawful g) (end : List Vertex) (w : NumbersTo g end) 
       nodes_met_by to back g (laid_out g end to) laid_out_isomorphism end (walk_sound g w) ∙ counted_map to.node (length g.ports.inputs) (nodes_met g end) are.nodes
           ∙ ap (count_from (length g.ports.inputs)) (let e : length (laid_out g end to).nodes ≡ length g.ports.inputs + length (nodes_met g end) = nodes_length in omega (arith, e)),
     );
-    memories = memories_met_by to end ∙ counted_map to.mem 0 (memories_met end) (λ i x q. (let e : to.mem x ≡ i = are.memories i x q in omega (arith, e))) ∙ ap (count_from 0) (sym (picked_length (memory_by to) g.memories (memories_met end) all_memories));
-    instances = instances_met_by to end ∙ counted_map to.inst 0 (instances_met end) (λ i x q. (let e : to.inst x ≡ i = are.instances i x q in omega (arith, e))) ∙ ap (count_from 0) (sym (picked_length (instance_by to) g.instances (instances_met end) all_instances));
+    memories = memories_met_by to end ∙ counted_map to.mem 0 (memories_met end) (λ i x q. (let e : to.mem x ≡ i = are.memories i x q in omega (arith, e)))
+        ∙ ap (count_from 0) (sym (picked_length (memory_by to) g.memories (memories_met end) all_memories));
+    instances = instances_met_by to end ∙ counted_map to.inst 0 (instances_met end) (λ i x q. (let e : to.inst x ≡ i = are.instances i x q in omega (arith, e)))
+        ∙ ap (count_from 0) (sym (picked_length (instance_by to) g.instances (instances_met end) all_instances));
   }

@@ -78,7 +78,8 @@ node_then r s (Mux sel cases) = ap (Mux (id_by (then r s) sel)) (ids_then r s ca
 node_then r s (Cat parts) = ap Cat (ids_then r s parts)
 node_then r s (Select a hi lo) = refl
 node_then r s (Reg next enable clear init) =
-    ap₂ (λ e c. Reg (id_by (then r s) next) e c init) (option_then (id_by r) (id_by s) (id_by (then r s)) enable (λ _. refl)) (option_then (clear_by r) (clear_by s) (clear_by (then r s)) clear (λ _. refl))
+    ap₂ (λ e c. Reg (id_by (then r s) next) e c init) (option_then (id_by r) (id_by s) (id_by (then r s)) enable (λ _. refl))
+    (option_then (clear_by r) (clear_by s) (clear_by (then r s)) clear (λ _. refl))
 node_then r s (Read m addr) = refl
 node_then r s (InstOut i port) = refl
 node_then r s (Op kind args) = ap (Op kind) (ids_then r s args)
@@ -153,7 +154,8 @@ node_fixed r (Reg next enable clear init) f =
     let n : id_by r next ≡ next = id_fixed r next (fixes_head r (node_of next) (optional_node enable ++ clear_node clear) f) in
     let rest : Fixes r (optional_node enable ++ clear_node clear) = fixes_rest r (node_of next) (optional_node enable ++ clear_node clear) f in
     ap (λ x. Reg x (option_map (id_by r) enable) (option_map (clear_by r) clear) init) n
-    ∙ ap₂ (λ e c. Reg next e c init) (enable_fixed r enable (fixes_left r (optional_node enable) (clear_node clear) rest)) (clear_fixed r clear (fixes_right r (optional_node enable) (clear_node clear) rest))
+    ∙ ap₂ (λ e c. Reg next e c init) (enable_fixed r enable (fixes_left r (optional_node enable) (clear_node clear) rest))
+    (clear_fixed r clear (fixes_right r (optional_node enable) (clear_node clear) rest))
 node_fixed r (Read m addr) f =
     ap₂ Read (ap (λ p. record { 0 = number p }) (fixes_head r (mem m.0) [] (fixes_rest r (node_of addr) (mem m.0 ∷ []) f))) (id_fixed r addr (fixes_head r (node_of addr) (mem m.0 ∷ []) f))
 node_fixed r (InstOut i port) f = ap (λ x. InstOut (record { 0 = number x }) port) (fixes_head r (inst i.0) [] f)

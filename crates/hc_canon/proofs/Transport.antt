@@ -252,14 +252,16 @@ module _ (g : Graph) (l : IsLawful g) (end : List Vertex) (w : NumbersTo g end) 
       let i : _ = has_index k in
       let p : IsPicked (memory_by to) g.memories (memories_met end) i.0 m = picked_from (memory_by to) g.memories (memories_met end) (all_memories g l end w to are) i.0 m i.1 in
       let r : Reached g (mem p.0) = walk_sound g w (mem p.0) (met_from_memories end p.0 (has_slice (memories_met end) i.0 p.0 p.2)) in
-      subst (IsLawfulMemory h) (sym p.4) (memory_to to from g h e p.1 (λ q c. further (mem p.0) q r (subst (λ o. Has (fanin_of_memory o) q) (sym p.3) c)) (l.memories p.1 (has_slice g.memories p.0 p.1 p.3)))
+      subst (IsLawfulMemory h) (sym p.4) (memory_to to from g h e p.1 (λ q c. further (mem p.0) q r (subst (λ o. Has (fanin_of_memory o) q) (sym p.3) c))
+      (l.memories p.1 (has_slice g.memories p.0 p.1 p.3)))
 
   instance_lawful : (it : Instance) → Has h.instances it → IsLawfulInstance h it
   instance_lawful it k =
       let i : _ = has_index k in
       let p : IsPicked (instance_by to) g.instances (instances_met end) i.0 it = picked_from (instance_by to) g.instances (instances_met end) (all_instances g l end w to are) i.0 it i.1 in
       let r : Reached g (inst p.0) = walk_sound g w (inst p.0) (met_from_instances end p.0 (has_slice (instances_met end) i.0 p.0 p.2)) in
-      subst (IsLawfulInstance h) (sym p.4) (instance_to to from g h e p.1 (λ q c. further (inst p.0) q r (subst (λ o. Has (fanin_of_instance o) q) (sym p.3) c)) (l.instances p.1 (has_slice g.instances p.0 p.1 p.3)))
+      subst (IsLawfulInstance h) (sym p.4) (instance_to to from g h e p.1 (λ q c. further (inst p.0) q r (subst (λ o. Has (fanin_of_instance o) q) (sym p.3) c))
+      (l.instances p.1 (has_slice g.instances p.0 p.1 p.3)))
 
   output_reached : (id : NodeId) → Has g.outputs id → Reached g (node id.0)
   output_reached id k = output (node id.0) (has_map node_of k)

@@ -90,10 +90,12 @@ read_for_workload job left r none is =
 -- ---- elaborated designs
 
 module _ (Rule : HistoryRule) where
-  serves_bench : (job : Job) (d : Design) (e : Elaborated) (f : Fault) (k : Kept) → DesignElaborates d (Ok e) → steps_of d (graph e.tree).ports ≡ Err f → Rule (history_in k) e.calls → ServesDesign Rule job d (is.BenchTold f k)
+  serves_bench : (job : Job) (d : Design) (e : Elaborated) (f : Fault) (k : Kept) → DesignElaborates d (Ok e) → steps_of d (graph e.tree).ports ≡ Err f
+      → Rule (history_in k) e.calls → ServesDesign Rule job d (is.BenchTold f k)
   serves_bench job d e f k elaborates fault history = (told f e.calls, bench_broken e f elaborates fault, record { status = refl; out = refl; history = history; ready = tt })
 
-  pub serves_refused : (job : Job) (d : Design) (e : Elaborated) (r : Refused) (k : Kept) (p : Prepared) → DesignElaborates d (Ok e) → Refuses r (steps_of d (graph e.tree).ports) → IsBenchToldOf r k p → Rule (history_in k) e.calls → ServesDesign Rule job d p
+  pub serves_refused : (job : Job) (d : Design) (e : Elaborated) (r : Refused) (k : Kept) (p : Prepared) → DesignElaborates d (Ok e)
+      → Refuses r (steps_of d (graph e.tree).ports) → IsBenchToldOf r k p → Rule (history_in k) e.calls → ServesDesign Rule job d p
   serves_refused job d e (refusals.Fault f) k p elaborates fault same history = subst (ServesDesign Rule job d) (sym same) (serves_bench job d e f k elaborates fault history)
   serves_refused job d e refusals.NoMemory k p elaborates fault same history = absurd same
 
@@ -132,7 +134,8 @@ module _ (Rule : HistoryRule) (no_calls : Rule no_history []) where
   pub parsed_input : (job : Job) (left : Option (List ℕ)) (d : Design) (p : Prepared) → IsReadFor job left (reads.Parsed d) → ServesDesign Rule job d p → ServesInput Rule job left p
   parsed_input job left d p r s = (r.0, s.0, r.1, r.2 job s.0 s.1, s.2)
 
-  pub serves_broken : (job : Job) (d : Design) (r : Refused) (result : Result Prepared NoMemory) → FaultIs (λ f. DesignElaborates d (Err f)) r → IfOk result (IsToldOf r) → IfOk result (ServesDesign Rule job d)
+  pub serves_broken : (job : Job) (d : Design) (r : Refused) (result : Result Prepared NoMemory) → FaultIs (λ f. DesignElaborates d (Err f)) r → IfOk result (IsToldOf r)
+      → IfOk result (ServesDesign Rule job d)
   serves_broken job d r result fault are = IfOk-weaker result _ _ (λ p told_of. by r p fault told_of) are
     where
       by : (r : Refused) (p : Prepared) → FaultIs (λ f. DesignElaborates d (Err f)) r → IsToldOf r p → ServesDesign Rule job d p
@@ -155,7 +158,8 @@ module _ (one_job : (words : List (List ℕ)) (a b : Job) → IsJob words a → 
     (free : (d : Design) (e : Elaborated) → DesignElaborates d (Ok e) → ¬ HasCombLoop e.tree)
     (whole_tree : (d : Design) (e : Elaborated) → DesignElaborates d (Ok e) → IsWhole e.tree)
     (one_run : (t : Tree) → IsWhole t → ¬ HasCombLoop t → (steps : List Step) (rows others : List CycleRow) → IsRun t steps rows → IsRun t steps others → rows ≡ others)
-    (one_output : (verb : Verb) (flat : Bool) (title : List ℕ) (e : Elaborated) (rows : List CycleRow) (a b : List ℕ) → IsWhole e.tree → IsOutput verb flat title e rows a → IsOutput verb flat title e rows b → a ≡ b) where
+    (one_output : (verb : Verb) (flat : Bool) (title : List ℕ) (e : Elaborated) (rows : List CycleRow) (a b : List ℕ) → IsWhole e.tree → IsOutput verb flat title e rows a
+    → IsOutput verb flat title e rows b → a ≡ b) where
   -- one output of one elaborated design
   outputs_once : (job : Job) (d : Design) (e : Elaborated) (steps others : List Step) (rows more : List CycleRow) (a b : List ℕ) → DesignElaborates d (Ok e)
       → steps_of d (graph e.tree).ports ≡ Ok steps → steps_of d (graph e.tree).ports ≡ Ok others → IsRun e.tree steps rows → IsRun e.tree others more
@@ -169,13 +173,15 @@ module _ (one_job : (words : List (List ℕ)) (a b : Job) → IsJob words a → 
   same_design : (d : Design) (e g : Elaborated) → DesignElaborates d (Ok e) → DesignElaborates d (Ok g) → e ≡ g
   same_design d e g x y = ok_is e g (elaborates_once d (Ok e) (Ok g) x y)
 
-  told_once : (d : Design) (e g : Elaborated) (f h : Fault) → DesignElaborates d (Ok e) → DesignElaborates d (Ok g) → steps_of d (graph e.tree).ports ≡ Err f → steps_of d (graph g.tree).ports ≡ Err h → told f e.calls ≡ told h g.calls
+  told_once : (d : Design) (e g : Elaborated) (f h : Fault) → DesignElaborates d (Ok e) → DesignElaborates d (Ok g) → steps_of d (graph e.tree).ports ≡ Err f
+      → steps_of d (graph g.tree).ports ≡ Err h → told f e.calls ≡ told h g.calls
   told_once d e g f h x y a b =
       let same : e ≡ g = same_design d e g x y in
       let here : steps_of d (graph g.tree).ports ≡ Err f = subst (λ (k : Elaborated). steps_of d (graph k.tree).ports ≡ Err f) same a in
       ap₂ (λ (k : Fault) (l : Elaborated). told k l.calls) (err_is f h (sym here ∙ b)) same
 
-  not_mixed : (d : Design) (e g : Elaborated) (f : Fault) (steps : List Step) → DesignElaborates d (Ok e) → DesignElaborates d (Ok g) → steps_of d (graph e.tree).ports ≡ Err f → steps_of d (graph g.tree).ports ≡ Ok steps → ⊥
+  not_mixed : (d : Design) (e g : Elaborated) (f : Fault) (steps : List Step) → DesignElaborates d (Ok e) → DesignElaborates d (Ok g)
+      → steps_of d (graph e.tree).ports ≡ Err f → steps_of d (graph g.tree).ports ≡ Ok steps → ⊥
   not_mixed d e g f steps x y a b =
       let here : steps_of d (graph g.tree).ports ≡ Err f = subst (λ (k : Elaborated). steps_of d (graph k.tree).ports ≡ Err f) (same_design d e g x y) a in
       ok_err steps f (sym b ∙ here)

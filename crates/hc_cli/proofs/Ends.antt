@@ -32,20 +32,33 @@ status_through a b c (Err e) is then_is = tt
 
 module _ (Rule : HistoryRule) (words : List (List ℕ)) (left : Option (List ℕ)) (p : Prepared) (o : Outcome) (serves : ServesLeft Rule words left p) where
   -- the sink took a front of what is due
-  pub cut_end : (old new : Option (List ℕ)) (sent : Sent) → OnOk sent (o.status ≡ status_of p) → (sent ≡ Err stop.NoMemory → (o.status ≡ 5) × (history_of o ≡ no_history)) → ((sent ≡ Err stop.NoMemory → ⊥) → history_of o ≡ kept p)
-      → ((out : List ℕ) → IsOutOf p out → sent ≡ Err stop.Failed → AppendsFront old new out) → o.status ≡ 4 → (text : List ℕ) × (d : Due) × Holds left text × IsDue words text d × IsCut Rule o old new d
+  pub cut_end : (old new : Option (List ℕ)) (sent : Sent) → OnOk sent (o.status ≡ status_of p) → (sent ≡ Err stop.NoMemory → (o.status ≡ 5) × (history_of o ≡ no_history))
+      → ((sent ≡ Err stop.NoMemory → ⊥) → history_of o ≡ kept p)
+      → ((out : List ℕ) → IsOutOf p out → sent ≡ Err stop.Failed → AppendsFront old new out) → o.status ≡ 4 → (text : List ℕ) × (d : Due) × Holds left text × IsDue words text d
+      × IsCut Rule o old new d
   cut_end old new (Ok x) done memory history front four = absurd (not_cut p (sym done ∙ four))
-  cut_end old new (Err stop.Failed) done memory history front four =
-      (serves.0, serves.1, serves.2, serves.3, record { out = front serves.1.out serves.4.out refl; history = subst (λ (h : History). Rule h serves.1.calls) (sym (history (λ e. cc))) serves.4.history })
+  cut_end old new (Err stop.Failed) done memory history front four = (
+    serves.0,
+    serves.1,
+    serves.2,
+    serves.3,
+    record {
+      out = front serves.1.out serves.4.out refl;
+      history = subst (λ (h : History). Rule h serves.1.calls)
+          (sym (history (λ e. cc))) serves.4.history;
+    },
+  )
   cut_end old new (Err stop.NoMemory) done memory history front four = absurd (let five : o.status ≡ 5 = (memory refl).0 in cc)
 
   -- where the sink's count did not rise
-  pub settled_end : (before now : ℕ) (sent : Sent) → OnOk sent (o.status ≡ status_of p) → (sent ≡ Err stop.NoMemory → (o.status ≡ 5) × (history_of o ≡ no_history)) → (sent ≡ Err stop.Failed → Rose before now) → ¬ Rose before now → IsDueOrNoMemory words left o.status
+  pub settled_end : (before now : ℕ) (sent : Sent) → OnOk sent (o.status ≡ status_of p) → (sent ≡ Err stop.NoMemory → (o.status ≡ 5) × (history_of o ≡ no_history))
+      → (sent ≡ Err stop.Failed → Rose before now) → ¬ Rose before now → IsDueOrNoMemory words left o.status
   settled_end before now (Ok x) done memory cause still = inr (serves.0, serves.1, serves.2, serves.3, done ∙ serves.4.status)
   settled_end before now (Err stop.Failed) done memory cause still = absurd (still (cause refl))
   settled_end before now (Err stop.NoMemory) done memory cause still = inl (memory refl).0
 
-  pub legal_end : ((h : History) (calls : List ElaboratedCall) → Rule h calls → IsLegal h) → (sent : Sent) → (sent ≡ Err stop.NoMemory → (o.status ≡ 5) × (history_of o ≡ no_history)) → ((sent ≡ Err stop.NoMemory → ⊥) → history_of o ≡ kept p) → IsLegal (history_of o)
+  pub legal_end : ((h : History) (calls : List ElaboratedCall) → Rule h calls → IsLegal h) → (sent : Sent)
+      → (sent ≡ Err stop.NoMemory → (o.status ≡ 5) × (history_of o ≡ no_history)) → ((sent ≡ Err stop.NoMemory → ⊥) → history_of o ≡ kept p) → IsLegal (history_of o)
   legal_end lawful (Ok x) memory history = subst IsLegal (sym (history (λ e. cc))) (lawful (kept p) serves.1.calls serves.4.history)
   legal_end lawful (Err stop.Failed) memory history = subst IsLegal (sym (history (λ e. cc))) (lawful (kept p) serves.1.calls serves.4.history)
   legal_end lawful (Err stop.NoMemory) memory history = subst IsLegal (sym (memory refl).1) none_legal

@@ -27,13 +27,16 @@ use Rattle.hc_cli.proofs.Orders.{calls_follow, entries_at_all, entries_follow}
 -- ---- the laws that this stands on
 
 abbrev pub StandForCalls : Type 0
-StandForCalls = (entries : List FormView) (hier : Hier) (e : Elaborated) (view : CallView) → IsHierarchyFor entries hier e → Has (walk hier) view → (c : ElaboratedCall) × Has e.calls c × IsCallFor entries view c
+StandForCalls = (entries : List FormView) (hier : Hier) (e : Elaborated) (view : CallView) → IsHierarchyFor entries hier e → Has (walk hier) view → (c : ElaboratedCall)
+    × Has e.calls c × IsCallFor entries view c
 
 abbrev pub HaveCalls : Type 0
-HaveCalls = (entries : List FormView) (hier : Hier) (e : Elaborated) (c : ElaboratedCall) → IsHierarchyFor entries hier e → Has e.calls c → (view : CallView) × Has (walk hier) view × IsCallFor entries view c
+HaveCalls = (entries : List FormView) (hier : Hier) (e : Elaborated) (c : ElaboratedCall) → IsHierarchyFor entries hier e → Has e.calls c → (view : CallView) × Has (walk hier) view
+    × IsCallFor entries view c
 
 abbrev pub AreCalledByTurns : Type 0
-AreCalledByTurns = (h : History) (hier : Hier) (e : Elaborated) (firsts order : List ElaboratedCall) → IsLegal h → IsHierarchyFor h.entries hier e → AreDistinct e.calls firsts → IsPermutation order firsts → AreEntriesOf h.entries (entries_named h) order → AreCalled h.entries hier
+AreCalledByTurns = (h : History) (hier : Hier) (e : Elaborated) (firsts order : List ElaboratedCall) → IsLegal h → IsHierarchyFor h.entries hier e → AreDistinct e.calls firsts
+    → IsPermutation order firsts → AreEntriesOf h.entries (entries_named h) order → AreCalled h.entries hier
 
 abbrev pub LogsHaveTurns : Type 0
 LogsHaveTurns = (h : History) → IsLegal h → map (λ (x : Entered). x.entry) (log h) ≡ entries_named h
@@ -58,7 +61,8 @@ module _ (stand : StandForCalls) (stood_for : HaveCalls) (one_entry : HaveOneEnt
       (call.0, call.1, subst (λ (id : EntryId). Denotes h.entries id call.0.tree) view.2 call.2.tree)
 
   -- turns of the distinct calls, in any order
-  abbrev pub history_is : (firsts : List ElaboratedCall) (ids : List EntryId) → AreDistinct e.calls firsts → AreEntriesOf h.entries ids firsts → IsPermutation (entries_named h) ids → AreCalled h.entries hier → IsHistoryOf h e.calls
+  abbrev pub history_is : (firsts : List ElaboratedCall) (ids : List EntryId) → AreDistinct e.calls firsts → AreEntriesOf h.entries ids firsts
+      → IsPermutation (entries_named h) ids → AreCalled h.entries hier → IsHistoryOf h e.calls
   history_is firsts ids distinct denoted turns called = record {
     legal = legal;
     firsts = firsts;
@@ -94,7 +98,8 @@ module _ (logs_have : LogsHaveTurns) (h : History) (e : Elaborated) (legal : IsL
 
 -- ---- the turns that a pass owns
 
-module _ (logs_have : LogsHaveTurns) (d : Design) (w : View Entered) (hier : Hier) (h : History) (legal : IsLegal h) (owns : OwnsDistinct d (whole []) w hier) (finds : Finds w h) (order : IsPermutation (places_of (log h)) w.mine) where
+module _ (logs_have : LogsHaveTurns) (d : Design) (w : View Entered) (hier : Hier) (h : History) (legal : IsLegal h) (owns : OwnsDistinct d (whole []) w hier) (finds : Finds w h)
+    (order : IsPermutation (places_of (log h)) w.mine) where
   pub owned_for : IsHierarchyFor h.entries hier owns.e
   owned_for = owns.hierarchy h finds
 

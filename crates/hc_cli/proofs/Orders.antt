@@ -27,8 +27,12 @@ map_swap f (d ∷ ps) i j =
 shuffled_back : {P X : Type 0} (f : P → X) (ps : List P) (xs : List X) → IsPermutation (map f ps) xs → (qs : List P) × (map f qs ≡ xs) × IsPermutation ps qs
 shuffled_back {P} {X} f ps = IsPermutation-keeps (map f ps) (λ l. (qs : List P) × (map f qs ≡ l) × IsPermutation ps qs) (ps, refl, IsPermutation-refl ps) (
     λ l i j a b h.
-    let same : length h.0 ≡ length l = sym (length-map h.0 f) ∙ ap length h.1 in
-    (swap h.0 i j, map_swap f h.0 i j ∙ ap (λ (m : List X). swap m i j) h.1, IsPermutation-trans ps h.0 (swap h.0 i j) h.2 (IsPermutation-swap h.0 (swap h.0 i j) i j (omega (arith, a, same)) (omega (arith, b, same)) refl))
+    let same : length h.0 ≡ length l = sym (length-map h.0 f) ∙ ap length h.1 in (
+      swap h.0 i j,
+      map_swap f h.0 i j ∙ ap (λ (m : List X). swap m i j) h.1,
+      IsPermutation-trans ps h.0 (swap h.0 i j) h.2
+          (IsPermutation-swap h.0 (swap h.0 i j) i j (omega (arith, a, same)) (omega (arith, b, same)) refl),
+    )
     )
 
 -- ---- entries beside their calls
@@ -68,7 +72,8 @@ module _ (entries : List FormView) where
   still_pairs ps qs moved all = unpaired qs (recursion_from_All IsPair qs (All-permutation IsPair ps qs moved (All-from_recursion IsPair ps all)))
 
   -- Calls in another order have their entries in another order.
-  pub entries_follow : (ids : List EntryId) (calls others : List ElaboratedCall) → AreEntriesOf entries ids calls → IsPermutation calls others → (moved : List EntryId) × IsPermutation ids moved × AreEntriesOf entries moved others
+  pub entries_follow : (ids : List EntryId) (calls others : List ElaboratedCall) → AreEntriesOf entries ids calls → IsPermutation calls others
+      → (moved : List EntryId) × IsPermutation ids moved × AreEntriesOf entries moved others
   entries_follow ids calls others are order =
       let p = paired ids calls are in
       let s = shuffled_back call_in p.pairs others (subst (λ (l : List ElaboratedCall). IsPermutation l others) (sym p.calls_are) order) in (
@@ -78,7 +83,8 @@ module _ (entries : List FormView) where
       )
 
   -- Entries in another order have their calls in another order.
-  pub calls_follow : (ids others : List EntryId) (calls : List ElaboratedCall) → AreEntriesOf entries ids calls → IsPermutation ids others → (moved : List ElaboratedCall) × IsPermutation calls moved × AreEntriesOf entries others moved
+  pub calls_follow : (ids others : List EntryId) (calls : List ElaboratedCall) → AreEntriesOf entries ids calls → IsPermutation ids others
+      → (moved : List ElaboratedCall) × IsPermutation calls moved × AreEntriesOf entries others moved
   calls_follow ids others calls are order =
       let p = paired ids calls are in
       let s = shuffled_back id_in p.pairs others (subst (λ (l : List EntryId). IsPermutation l others) (sym p.ids_are) order) in (
@@ -102,7 +108,8 @@ entry_there (t ∷ turns) zero d lt = refl
 entry_there (t ∷ turns) (suc k) d lt = entry_there turns k d (omega (arith, lt))
 
 all_there : (turns : List Entered) → map entry_of turns ≡ map (λ (p : ℕ). or_first (slice_get turns p)) (places_of turns)
-all_there turns = fill_by_all (λ (p : ℕ). or_first (slice_get turns p)) (map entry_of turns) (length turns) (record { 0 = 0 }) (length-map turns entry_of) (λ k lt. entry_there turns k (record { 0 = 0 }) lt)
+all_there turns = fill_by_all (λ (p : ℕ). or_first (slice_get turns p)) (map entry_of turns) (length turns) (record { 0 = 0 }) (length-map turns entry_of)
+    (λ k lt. entry_there turns k (record { 0 = 0 }) lt)
 
 cons_there : (turns : List Entered) (p : ℕ) (ids : List EntryId) → p < length turns → cons_option (option_map entry_of (slice_get turns p)) ids ≡ or_first (slice_get turns p) ∷ ids
 cons_there [] p ids lt = absurd (omega (arith, lt))

@@ -35,7 +35,8 @@ rose_later a b c le (inl less) = inl (omega (arith, le, less))
 rose_later a b c le (inr end) = inr end
 
 -- the write of a part failed, when what is before it was sent
-pub sent_cut : {T E : Type 0} (a b c : Option (List ℕ)) (k m n : ℕ) (result : Result T E) (bytes rest piece after : List ℕ) → IsErr result → AppendsUpTo a b bytes rest → k ≤ m → rest ≡ piece ++ after → AppendsFront b c piece → m ≤ n → Rose m n → IsSent a c k n result bytes
+pub sent_cut : {T E : Type 0} (a b c : Option (List ℕ)) (k m n : ℕ) (result : Result T E) (bytes rest piece after : List ℕ) → IsErr result → AppendsUpTo a b bytes rest
+    → k ≤ m → rest ≡ piece ++ after → AppendsFront b c piece → m ≤ n → Rose m n → IsSent a c k n result bytes
 sent_cut a b c k m n (Ok u) bytes rest piece after is so_far le parts front grows rose = absurd cc
 sent_cut a b c k m n (Err e) bytes rest piece after is so_far le parts front grows rose = record {
   all = tt;
@@ -44,10 +45,12 @@ sent_cut a b c k m n (Err e) bytes rest piece after is so_far le parts front gro
 }
 
 -- the last write failed, when all before it was sent
-pub sent_last : {T E : Type 0} (a b c : Option (List ℕ)) (result : Result T E) (bytes rest : List ℕ) → AppendsUpTo a b bytes rest → OnErr result (AppendsFront b c rest) → OnErr result (AppendsFront a c bytes)
+pub sent_last : {T E : Type 0} (a b c : Option (List ℕ)) (result : Result T E) (bytes rest : List ℕ) → AppendsUpTo a b bytes rest → OnErr result (AppendsFront b c rest)
+    → OnErr result (AppendsFront a c bytes)
 sent_last a b c (Ok u) bytes rest so_far front = tt
 sent_last a b c (Err e) bytes rest so_far front = sent_front a b c bytes rest rest [] so_far (sym (append-nil rest)) front
 
 -- the write of the first part failed
-pub sent_cut_first : {T E : Type 0} (a b : Option (List ℕ)) (m n : ℕ) (result : Result T E) (bytes piece after : List ℕ) → IsErr result → bytes ≡ piece ++ after → AppendsFront a b piece → m ≤ n → Rose m n → IsSent a b m n result bytes
+pub sent_cut_first : {T E : Type 0} (a b : Option (List ℕ)) (m n : ℕ) (result : Result T E) (bytes piece after : List ℕ) → IsErr result → bytes ≡ piece ++ after
+    → AppendsFront a b piece → m ≤ n → Rose m n → IsSent a b m n result bytes
 sent_cut_first a b m n result bytes piece after is parts front grows rose = sent_cut a a b m m n result bytes bytes piece after is (sent_none a bytes) (omega arith) parts front grows rose

@@ -62,7 +62,8 @@ module _ (decided : (words : List (List ℕ)) → HasNoJob words ⊎ ((job : Job
       let run : (rows : List CycleRow) × IsRun e.tree steps rows = runs e.tree w (free d e x) steps (for_inputs d (graph e.tree).ports steps (whole_ports e.tree w) given) in
       some_output d e job.verb job.flat d.top.name run.0 x (λ out. missing (done e.calls out.0) (whole e steps run.0 out.0 x given run.1 out.1))
 
-  some_bench : (job : Job) (d : Design) (e : Elaborated) (answer : Result (List Step) Fault) → DesignElaborates d (Ok e) → steps_of d (graph e.tree).ports ≡ answer → ((due : Due) → IsDesignDue job d due → ⊥) → ⊥
+  some_bench : (job : Job) (d : Design) (e : Elaborated) (answer : Result (List Step) Fault) → DesignElaborates d (Ok e) → steps_of d (graph e.tree).ports ≡ answer
+      → ((due : Due) → IsDesignDue job d due → ⊥) → ⊥
   some_bench job d e (Ok steps) x given missing = some_whole job d e steps x given missing
   some_bench job d e (Err f) x given missing = missing (told f e.calls) (bench_broken e f x given)
 

@@ -57,13 +57,15 @@ module _ {E : Type 0} (old new : History) (form : FormView) where
 -- the places of a log that is one item longer
 range_push : (a n : ℕ) → range_with_len a (n + 1) ≡ range_with_len a n ++ (a + n) ∷ []
 range_push a zero = let e : a ≡ a + 0 = omega arith in ap (λ k. k ∷ []) e
-range_push a (suc n) = let e : (a + 1) + n ≡ a + suc n = omega arith in let one : suc n + 1 ≡ suc (n + 1) = omega arith in ap (range_with_len a) one ∙ ap (λ l. a ∷ l) (range_push (a + 1) n ∙ ap (λ k. range_with_len (a + 1) n ++ k ∷ []) e)
+range_push a (suc n) = let e : (a + 1) + n ≡ a + suc n = omega arith in let one : suc n + 1 ≡ suc (n + 1) = omega arith in ap (range_with_len a) one
+    ∙ ap (λ l. a ∷ l) (range_push (a + 1) n ∙ ap (λ k. range_with_len (a + 1) n ++ k ∷ []) e)
 
 places_push : {I : Type 0} (log : List I) (item : I) → places_of (log ++ item ∷ []) ≡ places_of log ++ length log ∷ []
 places_push log item = ap (range_with_len 0) (length-append log (item ∷ [])) ∙ range_push 0 (length log) ∙ ap (λ k. places_of log ++ k ∷ []) (let e : 0 + length log ≡ length log = omega arith in e)
 
 -- who owned each place of the log when it took the turn owns each place of what it leaves
-pub owns_all : (v held w : View Entered) (old new : List Entered) → held ≡ after_enter v old → AddsAtMostOne old new → (new ≡ held.seen → w ≡ left_as_it_was held) → ((e : Entered) → new ≡ held.seen ++ e ∷ [] → w ≡ left_with held e)
+pub owns_all : (v held w : View Entered) (old new : List Entered) → held ≡ after_enter v old → AddsAtMostOne old new → (new ≡ held.seen → w ≡ left_as_it_was held)
+    → ((e : Entered) → new ≡ held.seen ++ e ∷ [] → w ≡ left_with held e)
     → IsPermutation (places_of old) v.mine → IsPermutation (places_of w.seen) w.mine
 owns_all v held w old new holds (inl same) stays more all =
     let seen : old ≡ held.seen = sym (ap (λ (u : View Entered). u.seen) holds) in

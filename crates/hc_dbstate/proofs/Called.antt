@@ -38,7 +38,8 @@ times_has id (k ∷ kids) le = by (λ more. times_has id kids more) (k.entry.0 =
     by : (1 ≤ times id (map entry_of kids) → (j : CallRow) × Has kids j × (j.entry ≡ id)) → (b : Bool) → (k.entry.0 == id.0) ≡ b → (j : CallRow) × Has (k ∷ kids) j × (j.entry ≡ id)
     by more true e = (k, first, ap (λ (n : ℕ). let i : EntryId = record { 0 = n } in i) ((Decides-eqb k.entry.0 id.0).0 e))
     by more false e =
-        let n : times id (entry_of k ∷ map entry_of kids) ≡ 0 + times id (map entry_of kids) = count_cons (λ (y : EntryId). y.0 == id.0) (entry_of k) (map entry_of kids) ∙ ap (λ (b : Bool). cond b 1 0 + times id (map entry_of kids)) e in
+        let n : times id (entry_of k ∷ map entry_of kids) ≡ 0 + times id (map entry_of kids) = count_cons (λ (y : EntryId). y.0 == id.0) (entry_of k) (map entry_of kids)
+        ∙ ap (λ (b : Bool). cond b 1 0 + times id (map entry_of kids)) e in
         let j = more (omega (arith, n, le)) in (j.0, later j.1, j.2)
 
 module _ (entries : List FormView) (h : Hier) (over : IsElaboration entries h) where

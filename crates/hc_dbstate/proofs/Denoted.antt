@@ -20,10 +20,12 @@ use Rattle.hc_dbstate.proofs.Unfolded.{kid_below, unfolded, unfolds}
 has_entry : (g : Graph) (ids : List EntryId) (a : FormView) → IsCanonOf g ids a → (i : ℕ) → Reached g (inst i) → (id : EntryId) × (slice_get ids i ≡ Some id)
 has_entry g ids a c i r =
     let row : HasRow a.circuit (inst (c.to.inst i)) = reached_row a.circuit c.form.lawful (reached_to c.to c.back g a.circuit c.isomorphism r) in
-    let x : (id : EntryId) × (slice_get a.kids (c.to.inst i) ≡ Some id) = some_at a.kids (c.to.inst i) (subst (λ n. c.to.inst i < n) (sym c.form.kids) (slice_get_within a.circuit.instances (c.to.inst i) row.0 row.1)) in
+    let x : (id : EntryId) × (slice_get a.kids (c.to.inst i) ≡ Some id) = some_at a.kids (c.to.inst i)
+    (subst (λ n. c.to.inst i < n) (sym c.form.kids) (slice_get_within a.circuit.instances (c.to.inst i) row.0 row.1)) in
     (x.0, sym (c.kids i r) ∙ x.1)
 
-module _ (entries : List FormView) (f g : Graph) (ids others : List EntryId) (s t : ℕ → Tree) (a b : FormView) (ds : AreDenoted entries ids s) (dt : AreDenoted entries others t) (ca : IsCanonOf f ids a) (cb : IsCanonOf g others b) where
+module _ (entries : List FormView) (f g : Graph) (ids others : List EntryId) (s t : ℕ → Tree) (a b : FormView) (ds : AreDenoted entries ids s) (dt : AreDenoted entries others t)
+    (ca : IsCanonOf f ids a) (cb : IsCanonOf g others b) where
   same_from_isomorphic : AreIsomorphic f ids g others → Same (tree f s) (tree g t)
   same_from_isomorphic e = (
     e.0,
@@ -34,7 +36,8 @@ module _ (entries : List FormView) (f g : Graph) (ids others : List EntryId) (s 
   )
 
   -- where the entries of the instances tell their trees apart
-  isomorphic_from_same : ((i j : ℕ) (x y : EntryId) → slice_get ids i ≡ Some x → slice_get others j ≡ Some y → Same (unfolding_of entries x) (unfolding_of entries y) → x ≡ y) → Same (tree f s) (tree g t) → AreIsomorphic f ids g others
+  isomorphic_from_same : ((i j : ℕ) (x y : EntryId) → slice_get ids i ≡ Some x → slice_get others j ≡ Some y → Same (unfolding_of entries x) (unfolding_of entries y) → x ≡ y)
+      → Same (tree f s) (tree g t) → AreIsomorphic f ids g others
   isomorphic_from_same once e = (
     e.0,
     e.1,
@@ -42,7 +45,8 @@ module _ (entries : List FormView) (f g : Graph) (ids others : List EntryId) (s 
     λ i r. (let x : (id : EntryId) × (slice_get ids i ≡ Some id) = has_entry f ids a ca i r in
         let y : (id : EntryId) × (slice_get others (e.0.inst i) ≡ Some id) = has_entry g others b cb (e.0.inst i) (reached_to e.0 e.1 f g e.2 r) in
         let u : Same (unfolding_of entries x.0) (t (e.0.inst i)) = same-trans (unfolding_of entries x.0) (s i) (t (e.0.inst i)) (ds i x.0 x.1).1 (e.3 i r) in
-        let v : Same (unfolding_of entries x.0) (unfolding_of entries y.0) = same-trans (unfolding_of entries x.0) (t (e.0.inst i)) (unfolding_of entries y.0) u (same-sym (unfolding_of entries y.0) (t (e.0.inst i)) (dt (e.0.inst i) y.0 y.1).1) in
+        let v : Same (unfolding_of entries x.0) (unfolding_of entries y.0) = same-trans (unfolding_of entries x.0) (t (e.0.inst i)) (unfolding_of entries y.0) u
+        (same-sym (unfolding_of entries y.0) (t (e.0.inst i)) (dt (e.0.inst i) y.0 y.1).1) in
         y.1 ∙ ap Some (sym (once i (e.0.inst i) x.0 y.0 x.1 y.1 v)) ∙ sym x.1),
   )
 
@@ -76,7 +80,8 @@ module _ (h : History) (legal : IsLegal h) where
       let db : AreDenoted h.entries b.kids (λ n. kid_tree (unfolded h legal) (slice_get b.kids n)) = own_denoted j.0 b there in
       let ca : IsCanonOf a.circuit a.kids a = own_canon a (legal.forms i.0 a at) in
       let cb : IsCanonOf b.circuit b.kids b = own_canon b (legal.forms j.0 b there) in
-      let trees : Same (tree a.circuit (λ n. kid_tree (unfolded h legal) (slice_get a.kids n))) (tree b.circuit (λ n. kid_tree (unfolded h legal) (slice_get b.kids n))) = subst₂ Same (unfolds h legal i a at) (unfolds h legal j b there) s in
+      let trees : Same (tree a.circuit (λ n. kid_tree (unfolded h legal) (slice_get a.kids n))) (tree b.circuit (λ n. kid_tree (unfolded h legal) (slice_get b.kids n))) = subst₂
+      Same (unfolds h legal i a at) (unfolds h legal j b there) s in
       let e : AreIsomorphic a.circuit a.kids b.circuit b.kids =
       isomorphic_from_same h.entries a.circuit b.circuit a.kids b.kids (λ n. kid_tree (unfolded h legal) (slice_get a.kids n)) (λ n. kid_tree (unfolded h legal) (slice_get b.kids n)) a b da db ca cb
       (λ n m x y p q u. once x y (kid_below h legal i.0 a n x at p) (da n x p).0 (db m y q).0 u) trees in
@@ -93,7 +98,8 @@ module _ (h : History) (legal : IsLegal h) where
   pub unfoldings_once : (i j : EntryId) → i.0 < length h.entries → j.0 < length h.entries → Same (unfolding_of h.entries i) (unfolding_of h.entries j) → i ≡ j
   unfoldings_once i j l m s = let b : i.0 < suc i.0 = omega arith in once_below (suc i.0) i j b l m s
 
-  module _ (f g : Graph) (ids others : List EntryId) (s t : ℕ → Tree) (a b : FormView) (ds : AreDenoted h.entries ids s) (dt : AreDenoted h.entries others t) (ca : IsCanonOf f ids a) (cb : IsCanonOf g others b) where
+  module _ (f g : Graph) (ids others : List EntryId) (s t : ℕ → Tree) (a b : FormView) (ds : AreDenoted h.entries ids s) (dt : AreDenoted h.entries others t)
+      (ca : IsCanonOf f ids a) (cb : IsCanonOf g others b) where
     pub same_from_forms : a ≡ b → Same (tree f s) (tree g t)
     same_from_forms e = same_from_isomorphic h.entries f g ids others s t a b ds dt ca cb (isomorphic_from_forms f g ids others a b ca cb e)
 

@@ -31,7 +31,8 @@ take_all [] = refl
 take_all (x ∷ xs) = ap (λ l. x ∷ l) (take_all xs)
 
 module _ (h : History) (legal : IsLegal h) where
-  turns_legal : (last : Turn) → IsLegalTurn (fresh_turns h.turns) last.entry.0 last.fresh → (k : ℕ) (t : Turn) → slice_get (h.turns ++ last ∷ []) k ≡ Some t → IsLegalTurn (fresh_turns (take k (h.turns ++ last ∷ []))) t.entry.0 t.fresh
+  turns_legal : (last : Turn) → IsLegalTurn (fresh_turns h.turns) last.entry.0 last.fresh → (k : ℕ) (t : Turn) → slice_get (h.turns ++ last ∷ []) k ≡ Some t
+      → IsLegalTurn (fresh_turns (take k (h.turns ++ last ∷ []))) t.entry.0 t.fresh
   turns_legal last l k t e =
       elim (longer h.turns last k t e) [
         | inl a ↦ (let b : k < length h.turns = slice_get_within h.turns k t a in
@@ -78,13 +79,16 @@ module _ (h : History) (legal : IsLegal h) where
     }
 
 -- the log has one triple more
-log_grows : (h : History) → IsLegal h → (entries : List FormView) (turns : List Turn) (more : List FormView) (id : EntryId) (fresh : Bool) (x : FormView) → entries ≡ h.entries ++ more → turns ≡ h.turns ++ turn id fresh ∷ [] → slice_get (h.entries ++ more) id.0 ≡ Some x
+log_grows : (h : History) → IsLegal h → (entries : List FormView) (turns : List Turn) (more : List FormView) (id : EntryId) (fresh : Bool) (x : FormView)
+    → entries ≡ h.entries ++ more → turns ≡ h.turns ++ turn id fresh ∷ [] → slice_get (h.entries ++ more) id.0 ≡ Some x
     → log (record { entries = entries; turns = turns }) ≡ log h ++ entered id fresh x ∷ []
 log_grows h legal entries turns more id fresh x a b e =
-    log_is (record { entries = entries; turns = turns }) ∙ ap₂ triples a b ∙ triples_grow h.entries more h.turns (turn id fresh) x (legal_names h legal) e ∙ ap (λ l. l ++ entered id fresh x ∷ []) (sym (log_is h))
+    log_is (record { entries = entries; turns = turns }) ∙ ap₂ triples a b ∙ triples_grow h.entries more h.turns (turn id fresh) x (legal_names h legal) e
+    ∙ ap (λ l. l ++ entered id fresh x ∷ []) (sym (log_is h))
 
 -- an entry was equal
-pub again_inserted : (h : History) (entries : List FormView) (turns : List Turn) (x : FormView) (id : EntryId) → IsLegal h → entries ≡ h.entries → turns ≡ h.turns ++ turn id false ∷ [] → slice_get entries id.0 ≡ Some x
+pub again_inserted : (h : History) (entries : List FormView) (turns : List Turn) (x : FormView) (id : EntryId) → IsLegal h → entries ≡ h.entries
+    → turns ≡ h.turns ++ turn id false ∷ [] → slice_get entries id.0 ≡ Some x
     → IsLegal (record { entries = entries; turns = turns }) × IsInserted h (record { entries = entries; turns = turns }) x id
 again_inserted h entries turns x id legal a b here =
     let there : slice_get h.entries id.0 ≡ Some x = ap (λ l. slice_get l id.0) (sym a) ∙ here in
@@ -102,7 +106,8 @@ again_inserted h entries turns x id legal a b here =
     )
 
 -- no entry was equal
-pub fresh_inserted : (h : History) (entries : List FormView) (turns : List Turn) (x : FormView) (id : EntryId) → IsLegal h → entries ≡ h.entries ++ x ∷ [] → turns ≡ h.turns ++ turn id true ∷ [] → id.0 ≡ length h.entries
+pub fresh_inserted : (h : History) (entries : List FormView) (turns : List Turn) (x : FormView) (id : EntryId) → IsLegal h → entries ≡ h.entries ++ x ∷ []
+    → turns ≡ h.turns ++ turn id true ∷ [] → id.0 ≡ length h.entries
     → IsForm x → ((k : EntryId) → Has x.kids k → k.0 < length h.entries) → ((k : ℕ) → slice_get h.entries k ≢ Some x)
     → IsLegal (record { entries = entries; turns = turns }) × IsInserted h (record { entries = entries; turns = turns }) x id
 fresh_inserted h entries turns x id legal a b at form kids new =

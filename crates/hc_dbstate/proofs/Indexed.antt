@@ -30,7 +30,8 @@ of_all P (y ∷ xs) x a first = a.0
 of_all P (y ∷ xs) x a (later h) = of_all P xs x a.1 h
 
 -- a form that stands at none of the places of its key stands nowhere
-pub none_elsewhere : (bits : ℕ) (h : ℕ) (xs : List FormView) (ps : List ℕ) (x : FormView) → ps ≡ places_from bits 0 h xs → h ≡ key_of bits x → All (λ p. slice_get xs p ≢ Some x) ps → (j : ℕ) → slice_get xs j ≢ Some x
+pub none_elsewhere : (bits : ℕ) (h : ℕ) (xs : List FormView) (ps : List ℕ) (x : FormView) → ps ≡ places_from bits 0 h xs → h ≡ key_of bits x
+    → All (λ p. slice_get xs p ≢ Some x) ps → (j : ℕ) → slice_get xs j ≢ Some x
 none_elsewhere bits h xs ps x e q a j k =
     let z : 0 + j ≡ j = omega arith in
     let listed : Has ps j = subst (λ l. Has l j) (sym e) (subst (λ m. Has (places_from bits 0 h xs) m) z (listed_there bits h 0 xs j x k (sym q))) in
@@ -40,7 +41,8 @@ pub on_none : {X : Type 0} (P Q : Type 0) (R : X → Type 0) → (P → Q) → (
 on_none P Q R f None h = f h
 on_none P Q R f (Some x) h = h
 
-places_push : (bits : ℕ) (h i : ℕ) (xs : List FormView) (e : FormView) → places_from bits i h (xs ++ e ∷ []) ≡ cond (nat_eq (key_of bits e) h) (places_from bits i h xs ++ (i + length xs) ∷ []) (places_from bits i h xs)
+places_push : (bits : ℕ) (h i : ℕ) (xs : List FormView) (e : FormView)
+    → places_from bits i h (xs ++ e ∷ []) ≡ cond (nat_eq (key_of bits e) h) (places_from bits i h xs ++ (i + length xs) ∷ []) (places_from bits i h xs)
 places_push bits h i [] e = ap (λ n. cond (nat_eq (key_of bits e) h) (n ∷ []) []) (omega arith)
 places_push bits h i (x ∷ xs) e = go (nat_eq (key_of bits x) h) (nat_eq (key_of bits e) h) (places_push bits h (i + 1) xs e) (omega arith)
   where
@@ -54,7 +56,9 @@ places_push bits h i (x ∷ xs) e = go (nat_eq (key_of bits x) h) (nat_eq (key_o
     go false false more n = more
 
 -- one entry more
-pub places_after : (bits : ℕ) (h : ℕ) (xs ys : List FormView) (x : FormView) (key k : ℕ) (now old : List ℕ) → ys ≡ xs ++ x ∷ [] → key ≡ key_of bits x → k ≡ length xs → old ≡ places_from bits 0 h xs → now ≡ cond (nat_eq key h) (old ++ k ∷ []) old → now ≡ places_from bits 0 h ys
+pub places_after : (bits : ℕ) (h : ℕ) (xs ys : List FormView) (x : FormView) (key k : ℕ) (now old : List ℕ) → ys ≡ xs ++ x ∷ [] → key ≡ key_of bits x → k ≡ length xs
+    → old ≡ places_from bits 0 h xs → now ≡ cond (nat_eq key h) (old ++ k ∷ []) old → now ≡ places_from bits 0 h ys
 places_after bits h xs ys x key k now old a b c d e =
     e ∙ ap (λ n. cond (nat_eq n h) (old ++ k ∷ []) old) b ∙ ap₂ (λ ps n. cond (nat_eq (key_of bits x) h) (ps ++ n ∷ []) ps) d c
-    ∙ sym (places_push bits h 0 xs x ∙ ap (λ n. cond (nat_eq (key_of bits x) h) (places_from bits 0 h xs ++ n ∷ []) (places_from bits 0 h xs)) (zero-add (length xs))) ∙ ap (places_from bits 0 h) (sym a)
+    ∙ sym (places_push bits h 0 xs x ∙ ap (λ n. cond (nat_eq (key_of bits x) h) (places_from bits 0 h xs ++ n ∷ []) (places_from bits 0 h xs)) (zero-add (length xs)))
+    ∙ ap (places_from bits 0 h) (sym a)

@@ -103,7 +103,8 @@ length-replicate_off : (n : ℕ) → length (replicate n false) ≡ n
 length-replicate_off zero = refl
 length-replicate_off (suc n) = ap suc (length-replicate_off n)
 
-pub starts : (entries : List FormView) (top : EntryId) (marks : List Bool) → top.0 < length entries → marks ≡ with_mark (replicate (length entries) false) top → AreUsesAbove entries top marks (length entries)
+pub starts : (entries : List FormView) (top : EntryId) (marks : List Bool) → top.0 < length entries → marks ≡ with_mark (replicate (length entries) false) top
+    → AreUsesAbove entries top marks (length entries)
 starts entries top marks lt is =
     let n : length marks ≡ length entries = ap length is ∙ set_length (replicate (length entries) false) top.0 ∙ length-replicate_off (length entries) in
     let l = length-replicate_off (length entries) in
@@ -119,7 +120,8 @@ starts entries top marks lt is =
     }
 
 -- an entry that is not marked
-pub passes : (entries : List FormView) (top : EntryId) (marks : List Bool) (place i : ℕ) → place ≡ i + 1 → (IsMarked marks (entry i) → ⊥) → AreUsesAbove entries top marks place → AreUsesAbove entries top marks i
+pub passes : (entries : List FormView) (top : EntryId) (marks : List Bool) (place i : ℕ) → place ≡ i + 1 → (IsMarked marks (entry i) → ⊥)
+    → AreUsesAbove entries top marks place → AreUsesAbove entries top marks i
 passes entries top marks place i is off u = record {
   len = u.len;
   own = u.own;
@@ -132,7 +134,9 @@ passes entries top marks place i is off u = record {
 }
 
 -- an entry that is marked, whose kids are marked
-pub takes : (entries : List FormView) (top : EntryId) (marks new : List Bool) (place i : ℕ) (form : FormView) → HaveLowerKids entries → place ≡ i + 1 → IsMarked marks (entry i) → slice_get entries i ≡ Some form → new ≡ with_marks marks form.kids → AreUsesAbove entries top marks place → AreUsesAbove entries top new i
+pub takes : (entries : List FormView) (top : EntryId) (marks new : List Bool) (place i : ℕ) (form : FormView) → HaveLowerKids entries → place ≡ i + 1
+    → IsMarked marks (entry i) → slice_get entries i ≡ Some form → new ≡ with_marks marks form.kids → AreUsesAbove entries top marks place
+    → AreUsesAbove entries top new i
 takes entries top marks new place i form lower is on at made u =
     subst (λ (m : List Bool). AreUsesAbove entries top m i) (sym made) (record {
       len = marks_length marks form.kids ∙ u.len;

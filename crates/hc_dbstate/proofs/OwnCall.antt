@@ -33,7 +33,8 @@ ports_of_same (tree g a) none s = absurd s
 ports_of_same (tree g a) (tree h b) s = sym s.2.ports
 
 module _ (h : History) (legal : IsLegal h) (circuit : Graph) (lawful : IsLawful circuit) (trees : ℕ → Tree) (call : CallView) (m : IsMade h.entries circuit trees call) where
-  kid_ports : (i : ℕ) (it : Instance) (id : EntryId) (kid : FormView) → slice_get m.form.circuit.instances i ≡ Some it → slice_get m.form.kids i ≡ Some id → slice_get h.entries id.0 ≡ Some kid → kid.circuit.ports ≡ it.ports
+  kid_ports : (i : ℕ) (it : Instance) (id : EntryId) (kid : FormView) → slice_get m.form.circuit.instances i ≡ Some it → slice_get m.form.kids i ≡ Some id
+      → slice_get h.entries id.0 ≡ Some kid → kid.circuit.ports ≡ it.ports
   kid_ports i it id kid at k there =
       let x : Reached circuit (inst (m.canon.back.inst i)) × (m.canon.to.inst (m.canon.back.inst i) ≡ i) × (slice_get m.form.kids i ≡ slice_get (entries_of call.kids) (m.canon.back.inst i)) =
       kid_from circuit (entries_of call.kids) m.form m.canon i (slice_get_within m.form.circuit.instances i it at) in

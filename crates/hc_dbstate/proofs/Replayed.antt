@@ -63,7 +63,8 @@ module _ (h : History) (legal : IsLegal h) where
       let m : length h.entries ≡ fresh_turns h.turns = legal.many in
       let few : fresh_turns front ≤ length h.entries = omega (arith, some, b, m) in
       let x : (x : FormView) × (slice_get h.entries t.entry.0 ≡ Some x) = some_at h.entries t.entry.0 (n zero t refl) in
-      let r : Replays (take (fresh_turns (front ++ t ∷ [])) h.entries) (triples h.entries rest) h.entries = rest_replays (front ++ t ∷ []) rest (q ∙ sym (append_assoc front (t ∷ []) rest)) (λ k u s. n (suc k) u s) in
+      let r : Replays (take (fresh_turns (front ++ t ∷ [])) h.entries) (triples h.entries rest) h.entries = rest_replays (front ++ t ∷ []) rest
+      (q ∙ sym (append_assoc front (t ∷ []) rest)) (λ k u s. n (suc k) u s) in
       subst (λ l. Replays (take (fresh_turns front) h.entries) l h.entries) (sym (triples_step h.entries t rest x.0 x.1))
       (turn_replays t.fresh (fresh_turns front) t.entry x.0 (triples h.entries rest) l few x.1 (subst (λ n. Replays (take n h.entries) (triples h.entries rest) h.entries) (fresh_after front t) r))
 

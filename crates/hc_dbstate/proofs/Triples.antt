@@ -35,7 +35,8 @@ fresh_cons t ts = sum_by-append (λ (t : Turn). cond t.fresh 1 0) (t ∷ []) ts 
 
 pub fresh_some : (ts : List Turn) (k : ℕ) (t : Turn) → slice_get ts k ≡ Some t → fresh_turns (take k ts) + cond t.fresh 1 0 ≤ fresh_turns ts
 fresh_some [] k t e = cc
-fresh_some (u ∷ ts) zero t e = (let q : u ≡ t = some_once e in subst (λ (v : Turn). 0 + cond v.fresh 1 0 ≤ fresh_turns (u ∷ ts)) q (let c : fresh_turns (u ∷ ts) ≡ cond u.fresh 1 0 + fresh_turns ts = fresh_cons u ts in omega (arith, c)))
+fresh_some (u ∷ ts) zero t e = (let q : u ≡ t = some_once e in subst (λ (v : Turn). 0 + cond v.fresh 1 0 ≤ fresh_turns (u ∷ ts)) q
+    (let c : fresh_turns (u ∷ ts) ≡ cond u.fresh 1 0 + fresh_turns ts = fresh_cons u ts in omega (arith, c)))
 fresh_some (u ∷ ts) (suc k) t e =
     let r : fresh_turns (take k ts) + cond t.fresh 1 0 ≤ fresh_turns ts = fresh_some ts k t e in
     let c : fresh_turns (u ∷ ts) ≡ cond u.fresh 1 0 + fresh_turns ts = fresh_cons u ts in
@@ -68,7 +69,8 @@ log_is h = refl
 pub triple_is : (entries : List FormView) (t : Turn) (x : FormView) → slice_get entries t.entry.0 ≡ Some x → triple entries t ≡ Some (entered t.entry t.fresh x)
 triple_is entries t x e = ap (option_map (entered t.entry t.fresh)) e
 
-pub triples_step : (entries : List FormView) (t : Turn) (ts : List Turn) (x : FormView) → slice_get entries t.entry.0 ≡ Some x → triples entries (t ∷ ts) ≡ entered t.entry t.fresh x ∷ triples entries ts
+pub triples_step : (entries : List FormView) (t : Turn) (ts : List Turn) (x : FormView) → slice_get entries t.entry.0 ≡ Some x
+    → triples entries (t ∷ ts) ≡ entered t.entry t.fresh x ∷ triples entries ts
 triples_step entries t ts x e = ap (λ o. cons_option o (triples entries ts)) (triple_is entries t x e)
 
 pub triples_many : (entries : List FormView) (ts : List Turn) → NameEntries entries ts → length (triples entries ts) ≡ length ts
@@ -83,7 +85,8 @@ triples_at entries (u ∷ ts) n k t e =
     let x : (x : FormView) × (slice_get entries u.entry.0 ≡ Some x) = some_at entries u.entry.0 (n zero u refl) in
     ap (λ l. slice_get l k) (triples_step entries u ts x.0 x.1) ∙ go x.0 x.1 (λ j. triples_at entries ts (λ i v f. n (suc i) v f) j t) k e
   where
-    go : (x : FormView) → slice_get entries u.entry.0 ≡ Some x → ((j : ℕ) → slice_get ts j ≡ Some t → slice_get (triples entries ts) j ≡ triple entries t) → (k : ℕ) → slice_get (u ∷ ts) k ≡ Some t → slice_get (entered u.entry u.fresh x ∷ triples entries ts) k ≡ triple entries t
+    go : (x : FormView) → slice_get entries u.entry.0 ≡ Some x → ((j : ℕ) → slice_get ts j ≡ Some t → slice_get (triples entries ts) j ≡ triple entries t) → (k : ℕ)
+        → slice_get (u ∷ ts) k ≡ Some t → slice_get (entered u.entry u.fresh x ∷ triples entries ts) k ≡ triple entries t
     go x q more zero e = sym (triple_is entries u x q) ∙ ap (triple entries) (some_once e)
     go x q more (suc k) e = more k e
 
@@ -97,7 +100,8 @@ pub triples_from : (entries : List FormView) (ts : List Turn) (e : Entered) → 
 triples_from entries [] e h = elim h [ ]
 triples_from entries (t ∷ ts) e h = go (slice_get entries t.entry.0) refl (triples_from entries ts e) h
   where
-    go : (o : Option FormView) → slice_get entries t.entry.0 ≡ o → (Has (triples entries ts) e → slice_get entries e.entry.0 ≡ Some e.form) → Has (cons_option (option_map (entered t.entry t.fresh) o) (triples entries ts)) e → slice_get entries e.entry.0 ≡ Some e.form
+    go : (o : Option FormView) → slice_get entries t.entry.0 ≡ o → (Has (triples entries ts) e → slice_get entries e.entry.0 ≡ Some e.form)
+        → Has (cons_option (option_map (entered t.entry t.fresh) o) (triples entries ts)) e → slice_get entries e.entry.0 ≡ Some e.form
     go None q rest h = rest h
     go (Some x) q rest h = of_each (λ (y : Entered). slice_get entries y.entry.0 ≡ Some y.form) (entered t.entry t.fresh x) (triples entries ts) e q rest h
 
@@ -111,7 +115,8 @@ triples_stay entries more (t ∷ ts) n =
     ∙ sym (triples_step entries t ts x.0 x.1)
 
 -- one turn more
-pub triples_grow : (entries more : List FormView) (ts : List Turn) (t : Turn) (x : FormView) → NameEntries entries ts → slice_get (entries ++ more) t.entry.0 ≡ Some x → triples (entries ++ more) (ts ++ t ∷ []) ≡ triples entries ts ++ entered t.entry t.fresh x ∷ []
+pub triples_grow : (entries more : List FormView) (ts : List Turn) (t : Turn) (x : FormView) → NameEntries entries ts → slice_get (entries ++ more) t.entry.0 ≡ Some x
+    → triples (entries ++ more) (ts ++ t ∷ []) ≡ triples entries ts ++ entered t.entry t.fresh x ∷ []
 triples_grow entries more ts t x n e =
     filter_map-append (triple (entries ++ more)) ts (t ∷ [])
     ∙ ap (λ l. l ++ triples (entries ++ more) (t ∷ [])) (triples_stay entries more ts n)

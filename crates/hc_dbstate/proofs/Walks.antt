@@ -75,7 +75,8 @@ own_among (x ∷ hs) kid (later h) = in_right (hier_view x).calls _ kid (own_amo
 abbrev Closed : Type 0
 Closed = (h : Hier) × IsClosed (hier_view h)
 
-kids_closed : (es : List Closed) → (call : CallView) (kid : CallRow) → Has (flat_map calls_of (map hier_view (map (λ (e : Closed). e.0) es))) call → Has call.kids kid → Among (flat_map calls_of (map hier_view (map (λ (e : Closed). e.0) es))) kid
+kids_closed : (es : List Closed) → (call : CallView) (kid : CallRow) → Has (flat_map calls_of (map hier_view (map (λ (e : Closed). e.0) es))) call → Has call.kids kid
+    → Among (flat_map calls_of (map hier_view (map (λ (e : Closed). e.0) es))) kid
 kids_closed [] call kid h k = elim h [ ]
 kids_closed (e ∷ es) call kid h k = elim (has_cases (hier_view e.0).calls _ h) [
   | inl here ↦ in_left (hier_view e.0).calls _ kid (e.1 call kid here k)
@@ -86,7 +87,8 @@ only_one : {X : Type 0} {x y : X} → Has (x ∷ []) y → y ≡ x
 only_one first = refl
 only_one (later h) = elim h [ ]
 
-level_closed : (hs : List Hier) (own : CallView) → own.kids ≡ map own_of (map hier_view hs) → ((call : CallView) (kid : CallRow) → Has (flat_map calls_of (map hier_view hs)) call → Has call.kids kid → Among (flat_map calls_of (map hier_view hs)) kid)
+level_closed : (hs : List Hier) (own : CallView) → own.kids ≡ map own_of (map hier_view hs)
+    → ((call : CallView) (kid : CallRow) → Has (flat_map calls_of (map hier_view hs)) call → Has call.kids kid → Among (flat_map calls_of (map hier_view hs)) kid)
     → (call : CallView) (kid : CallRow) → Has (flat_map calls_of (map hier_view hs) ++ own ∷ []) call → Has call.kids kid → Among (flat_map calls_of (map hier_view hs) ++ own ∷ []) kid
 level_closed hs own are below call kid h k = elim (has_cases (flat_map calls_of (map hier_view hs)) (own ∷ []) h) [
   | inl inner ↦ in_left _ (own ∷ []) kid (below call kid inner k)

@@ -141,9 +141,12 @@ module _ (g : Graph) (lawful : IsLawful g) (ids : List EntryId) (f : FormView) (
   pub form_weight : graph_weight f.circuit ≤ graph_weight g
   form_weight =
       let nodes : sum_by node_weight f.circuit.nodes ≤ sum_by node_weight g.nodes =
-      sums_inject node_weight node_weight f.circuit.nodes g.nodes (λ i. place i (two i inputs)) (λ i row e. node_partner i row (two i inputs) e) (λ i j a b e. places_apart i j (two i inputs) (two j inputs) a b e) in
-      let memories : sum_by memory_weight f.circuit.memories ≤ sum_by memory_weight g.memories = sums_inject memory_weight memory_weight f.circuit.memories g.memories c.back.mem mem_partner mems_apart in
-      let instances : sum_by instance_weight f.circuit.instances ≤ sum_by instance_weight g.instances = sums_inject instance_weight instance_weight f.circuit.instances g.instances c.back.inst inst_partner insts_apart in
+      sums_inject node_weight node_weight f.circuit.nodes g.nodes (λ i. place i (two i inputs)) (λ i row e. node_partner i row (two i inputs) e)
+      (λ i j a b e. places_apart i j (two i inputs) (two j inputs) a b e) in
+      let memories : sum_by memory_weight f.circuit.memories ≤ sum_by memory_weight g.memories = sums_inject memory_weight memory_weight f.circuit.memories g.memories c.back.mem
+      mem_partner mems_apart in
+      let instances : sum_by instance_weight f.circuit.instances ≤ sum_by instance_weight g.instances = sums_inject instance_weight instance_weight f.circuit.instances g.instances
+      c.back.inst inst_partner insts_apart in
       omega (arith, nodes, memories, instances)
 
   -- ---- kids

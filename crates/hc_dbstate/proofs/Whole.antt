@@ -22,7 +22,8 @@ abbrev pub IsGood : Tree → Type 0
 IsGood t = IsWhole t × AreChecked t
 
 module _ (h : History) (legal : IsLegal h) (x : Hier) (over : IsElaboration h.entries x) where
-  module _ (n : ℕ) (below : (call : CallView) → Has (walk x) call → call.own.entry.0 < n → IsGood (unfolding_of h.entries call.own.entry)) (call : CallView) (has : Has (walk x) call) (b : call.own.entry.0 < suc n) where
+  module _ (n : ℕ) (below : (call : CallView) → Has (walk x) call → call.own.entry.0 < n → IsGood (unfolding_of h.entries call.own.entry)) (call : CallView)
+      (has : Has (walk x) call) (b : call.own.entry.0 < suc n) where
     over_call : IsCallOver h.entries call
     over_call = over.calls call has
 

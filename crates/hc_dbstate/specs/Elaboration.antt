@@ -66,7 +66,8 @@ times id ids = count_by (λ (x : EntryId). x.0 == id.0) ids
 pub record IsCallOver (entries : List FormView) (call : CallView) : Type 0 where
   pub form : FormView
   pub found : slice_get entries call.own.entry.0 ≡ Some form
-  pub ports : (i : ℕ) (it : Instance) (id : EntryId) (kid : FormView) → slice_get form.circuit.instances i ≡ Some it → slice_get form.kids i ≡ Some id → slice_get entries id.0 ≡ Some kid → kid.circuit.ports ≡ it.ports
+  pub ports : (i : ℕ) (it : Instance) (id : EntryId) (kid : FormView) → slice_get form.circuit.instances i ≡ Some it → slice_get form.kids i ≡ Some id
+      → slice_get entries id.0 ≡ Some kid → kid.circuit.ports ≡ it.ports
   pub kids : (id : EntryId) → times id form.kids ≤ times id (map (λ (k : CallRow). k.entry) call.kids)
   pub no_loop : ¬ HasCombLoop (unfolding_of entries call.own.entry)
   pub masks : AreMasks (unfolding_of entries call.own.entry) call.own.masks

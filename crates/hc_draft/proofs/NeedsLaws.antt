@@ -31,7 +31,8 @@ unless_has : (d mask k : ℕ) → (d ≡ 0 → ⊥) → IsBitSet mask k → IsBi
 unless_has zero mask k d h = absurd (d refl)
 unless_has (suc d) mask k n h = h
 
-cleared_bit : (depends : List ℕ) (j : ℕ) (masks : List ℕ) (n k : ℕ) → IsBitSet (slice_index_or (cleared depends j masks) n 0) k → (slice_index_or depends (j + n) 0 ≡ 0 → ⊥) × IsBitSet (slice_index_or masks n 0) k
+cleared_bit : (depends : List ℕ) (j : ℕ) (masks : List ℕ) (n k : ℕ) → IsBitSet (slice_index_or (cleared depends j masks) n 0) k
+    → (slice_index_or depends (j + n) 0 ≡ 0 → ⊥) × IsBitSet (slice_index_or masks n 0) k
 cleared_bit depends j [] n k h = absurd (no_bit k h)
 cleared_bit depends j (mask ∷ masks) zero k h =
     let r = unless_bit (slice_index_or depends j 0) mask k h in
@@ -42,7 +43,8 @@ cleared_bit depends j (mask ∷ masks) (suc n) k h =
     let e : j + 1 + n ≡ j + suc n = omega arith in
     (subst (λ z. slice_index_or depends z 0 ≡ 0 → ⊥) e r.0, r.1)
 
-cleared_has : (depends : List ℕ) (j : ℕ) (masks : List ℕ) (n k : ℕ) → (slice_index_or depends (j + n) 0 ≡ 0 → ⊥) → IsBitSet (slice_index_or masks n 0) k → IsBitSet (slice_index_or (cleared depends j masks) n 0) k
+cleared_has : (depends : List ℕ) (j : ℕ) (masks : List ℕ) (n k : ℕ) → (slice_index_or depends (j + n) 0 ≡ 0 → ⊥) → IsBitSet (slice_index_or masks n 0) k
+    → IsBitSet (slice_index_or (cleared depends j masks) n 0) k
 cleared_has depends j [] n k d h = absurd (no_bit k h)
 cleared_has depends j (mask ∷ masks) zero k d h =
     let e : j + 0 ≡ j = omega arith in
@@ -71,7 +73,8 @@ no_bits x none = same_from_bits x 0 (λ i. elim (same_or_not (bit_at x i) 1) [
 
 -- ---- outputs
 
-outputs_keep : (own : List ℕ) (port : ℕ) (ids : List NodeId) (list : List ℕ) (n : NodeId) (k : ℕ) → NeedsBit list n k → ((i : ℕ) → slice_get ids i ≡ Some n → IsBitSet (slice_index_or own (port + i) 0) k) → NeedsBit (narrowed_by own port ids list) n k
+outputs_keep : (own : List ℕ) (port : ℕ) (ids : List NodeId) (list : List ℕ) (n : NodeId) (k : ℕ) → NeedsBit list n k
+    → ((i : ℕ) → slice_get ids i ≡ Some n → IsBitSet (slice_index_or own (port + i) 0) k) → NeedsBit (narrowed_by own port ids list) n k
 outputs_keep own port [] list n k h b = h
 outputs_keep own port (m ∷ ids) list n k h b =
     outputs_keep own (port + 1) ids (slice_set list m.0 (bit_and (slice_index_or list m.0 0) (slice_index_or own port 0))) n k
@@ -97,12 +100,14 @@ module _ (g : Graph) (kids : List (List ℕ)) (order : List NodeId) (lawful : Is
       no_bit k (subst (λ z. IsBitSet z k) e ((right n h k).1 (r.0, r.1, on (fanin_step g kids n m c) r.2))))
 
   -- what a node is computed from waits for no more than the node
-  pub needs_within : (own : List ℕ) (every : ℕ) (n m : NodeId) → Has order n → Has (local_fanin g kids n.0) m → (k : ℕ) → NeedsBit (needs_of_nodes g kids order own every) m k → NeedsBit (needs_of_nodes g kids order own every) n k
+  pub needs_within : (own : List ℕ) (every : ℕ) (n m : NodeId) → Has order n → Has (local_fanin g kids n.0) m → (k : ℕ)
+      → NeedsBit (needs_of_nodes g kids order own every) m k → NeedsBit (needs_of_nodes g kids order own every) n k
   needs_within own every n m h c k b =
       let free : List ℕ = filled g kids order in
       let masks : List ℕ = swept (local_fanin g kids) order (narrowed_by own 0 g.outputs (replicate (length g.nodes) every)) in
       let r = all_bit free masks m.0 k b in
-      all_has free masks n.0 k (λ e. r.0 (free_up n m h c e)) (swept_within (local_fanin g kids) order (narrowed_by own 0 g.outputs (replicate (length g.nodes) every)) o.different o.sorted n m h c k r.1)
+      all_has free masks n.0 k (λ e. r.0 (free_up n m h c e)) (swept_within (local_fanin g kids) order (narrowed_by own 0 g.outputs (replicate (length g.nodes) every)) o.different
+      o.sorted n m h c k r.1)
 
   -- a node that a path leads from has a row
   step_row : (n m : ℕ) → LocalStep g kids n m → n < length g.nodes
@@ -114,7 +119,8 @@ module _ (g : Graph) (kids : List (List ℕ)) (order : List NodeId) (lawful : Is
   path_row n m k y (on {k = j} s w) = step_row n j s
 
   -- a node waits for each input that leads to it
-  pub needs_all : (own : List ℕ) (every k : ℕ) → IsBitSet every k → ((output m : ℕ) (n : NodeId) → slice_get g.outputs output ≡ Some n → NodeAt g m (Input k) → LocalPath g kids n.0 m → IsBitSet (slice_index_or own output 0) k)
+  pub needs_all : (own : List ℕ) (every k : ℕ) → IsBitSet every k
+      → ((output m : ℕ) (n : NodeId) → slice_get g.outputs output ≡ Some n → NodeAt g m (Input k) → LocalPath g kids n.0 m → IsBitSet (slice_index_or own output 0) k)
       → (n : NodeId) (m : ℕ) → Has order n → NodeAt g m (Input k) → LocalPath g kids n.0 m → NeedsBit (needs_of_nodes g kids order own every) n k
   needs_all own every k e covers n m h y w =
       let free : List ℕ = filled g kids order in

@@ -12,7 +12,9 @@ by_bits (suc fuel) a b l h =
     let low : bit_at a 0 ≤ bit_at b 0 = h 0 in
     let p : bit_at a 0 ≡ a % 2 = bit_at_lowest a in
     let q : bit_at b 0 ≡ b % 2 = bit_at_lowest b in
-    let high : a / 2 ≤ b / 2 = by_bits fuel (a / 2) (b / 2) (omega (arith, l)) (λ k. let x : bit_at a (suc k) ≡ bit_at (a / 2) k = bit_at-suc a k in let y : bit_at b (suc k) ≡ bit_at (b / 2) k = bit_at-suc b k in let z : bit_at a (suc k) ≤ bit_at b (suc k) = h (suc k) in omega (arith, x, y, z)) in
+    let high : a / 2 ≤ b / 2 = by_bits fuel (a / 2) (b / 2) (omega (arith, l))
+    (λ k. let x : bit_at a (suc k) ≡ bit_at (a / 2) k = bit_at-suc a k in let y : bit_at b (suc k) ≡ bit_at (b / 2) k = bit_at-suc b k in let z : bit_at a (suc k) ≤ bit_at b
+    (suc k) = h (suc k) in omega (arith, x, y, z)) in
     omega (arith, low, p, q, high)
 
 bit_up : (a b k : ℕ) → (IsBitSet a k → IsBitSet b k) → bit_at a k ≤ bit_at b k

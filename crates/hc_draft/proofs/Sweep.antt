@@ -101,7 +101,8 @@ module _ (next : ℕ → List NodeId) where
   stands (y ∷ order) s x n (later h) c = later (stands order s.1 x n h c)
 
   -- what a node is computed from needs no more than the node
-  pub swept_within : (order : List NodeId) (list : List ℕ) → AllDifferent order → IsSorted next order → (n m : NodeId) → Has order n → Has (next n.0) m → (k : ℕ) → NeedsBit (swept next order list) m k → NeedsBit (swept next order list) n k
+  pub swept_within : (order : List NodeId) (list : List ℕ) → AllDifferent order → IsSorted next order → (n m : NodeId) → Has order n → Has (next n.0) m → (k : ℕ)
+      → NeedsBit (swept next order list) m k → NeedsBit (swept next order list) n k
   swept_within [] list d s n m h c k b = elim h [ ]
   swept_within (_ ∷ order) list d s n m first c k b =
       let mask : ℕ = slice_index_or list n.0 0 in

@@ -32,7 +32,11 @@ top_fails d refused.NoMemory e = tt
 
 -- the outcomes, whatever the forms
 pub of_any_form : (old new : History) (rows : List PlanRow) (outs : List Outcome) → AreFinished old new rows outs → AreOutcomes any_form rows outs
-of_any_form old new rows outs are = record { many = are.outcomes.many; each = λ k row o at out. outcome_stays (HasForm new) any_form (λ id form e. tt) outs outs row o refl (are.outcomes.each k row o at out) }
+of_any_form old new rows outs are = record {
+  many = are.outcomes.many;
+  each = λ k row o at out. outcome_stays (HasForm new) any_form (λ id form e. tt) outs outs row o refl
+      (are.outcomes.each k row o at out);
+}
 
 -- where all are finished, these are the entries of what is done
 entries_are : (outs : List Outcome) (done : List Done) → length done ≡ length outs → ((j : ℕ) (x : Done) → slice_get done j ≡ Some x → slice_get outs j ≡ Some (Some x)) → entries_of outs ≡ ids_of done
@@ -54,7 +58,8 @@ IsOnlyOne d = (r s : Result Elaborated Fault) → DesignElaborates d r → Desig
 abbrev pub HierarchiesStand : Design → History → Type 0
 HierarchiesStand d h =
     (rows : List PlanRow) (outs : List Outcome) (done : List Done) (hier : Hier) (k : ℕ) → IsLegal h → IsPlanOf d rows None → AreOutcomes (HasForm h) rows outs
-    → ((j : ℕ) → j < length rows → (y : Done) × (slice_get outs j ≡ Some (Some y))) → ((j : ℕ) (x : Done) → slice_get done j ≡ Some x → slice_get outs j ≡ Some (Some x)) → suc k ≡ length rows → IsHierAt d rows done k (hier_view hier) → ElaboratesIn d h.entries hier
+    → ((j : ℕ) → j < length rows → (y : Done) × (slice_get outs j ≡ Some (Some y))) → ((j : ℕ) (x : Done) → slice_get done j ≡ Some x → slice_get outs j ≡ Some (Some x))
+    → suc k ≡ length rows → IsHierAt d rows done k (hier_view hier) → ElaboratesIn d h.entries hier
 
 abbrev pub AreTurns : Design → History → List Done → Type 0
 AreTurns d h done = (e : Elaborated) × DesignElaborates d (Ok e) × (firsts : List ElaboratedCall) × AreDistinct e.calls firsts × AreEntriesOf h.entries (ids_of done) firsts
@@ -62,12 +67,14 @@ AreTurns d h done = (e : Elaborated) × DesignElaborates d (Ok e) × (firsts : L
 abbrev pub TurnsStand : Design → History → Type 0
 TurnsStand d h =
     (rows : List PlanRow) (outs : List Outcome) (done : List Done) → IsLegal h → IsPlanOf d rows None → AreOutcomes (HasForm h) rows outs
-    → ((j : ℕ) → j < length rows → (y : Done) × (slice_get outs j ≡ Some (Some y))) → ((j : ℕ) (x : Done) → slice_get done j ≡ Some x → slice_get outs j ≡ Some (Some x)) → length done ≡ length rows → AreTurns d h done
+    → ((j : ℕ) → j < length rows → (y : Done) × (slice_get outs j ≡ Some (Some y))) → ((j : ℕ) (x : Done) → slice_get done j ≡ Some x → slice_get outs j ≡ Some (Some x))
+    → length done ≡ length rows → AreTurns d h done
 
 -- ---- the hierarchy
 
 -- the hierarchy and the turns are of one elaboration
-both : (d : Design) → IsOnlyOne d → (old new : History) (outs : List Outcome) (done : List Done) (hier : Hier) → LogsRows old new outs → entries_of outs ≡ ids_of done → ElaboratesIn d new.entries hier → AreTurns d new done → (e : Elaborated) × DesignElaborates d (Ok e) × IsHierarchyFor new.entries hier e × LogsDistinct old new e
+both : (d : Design) → IsOnlyOne d → (old new : History) (outs : List Outcome) (done : List Done) (hier : Hier) → LogsRows old new outs → entries_of outs ≡ ids_of done
+    → ElaboratesIn d new.entries hier → AreTurns d new done → (e : Elaborated) × DesignElaborates d (Ok e) × IsHierarchyFor new.entries hier e × LogsDistinct old new e
 both d once old new outs done hier logs same stands turns =
     let alike : Ok turns.0 ≡ Ok stands.0 = once (Ok turns.0) (Ok stands.0) turns.1 stands.1 in
     let e_is : turns.0 ≡ stands.0 = cc in (
@@ -87,7 +94,8 @@ both d once old new outs done hier logs same stands turns =
 last_place : (rows before : List PlanRow) (row : PlanRow) → rows ≡ before ++ row ∷ [] → suc (length before) ≡ length rows
 last_place rows before row e = (let a : _ = length_push before row in let b : length rows ≡ length (before ++ row ∷ []) = ap length e in omega (arith, a, b))
 
-pub concluded : (d : Design) (old new : History) (plan : Plan) (xs : List (Option (EntryId × Paths))) (hier : Hier) → IsOnlyOne d → HierarchiesStand d new → TurnsStand d new → IsLegal new → IsPlanOf d plan.rows plan.stop → AreFinished old new plan.rows (outs_of xs) → IsConcluded d plan xs hier
+pub concluded : (d : Design) (old new : History) (plan : Plan) (xs : List (Option (EntryId × Paths))) (hier : Hier) → IsOnlyOne d → HierarchiesStand d new
+    → TurnsStand d new → IsLegal new → IsPlanOf d plan.rows plan.stop → AreFinished old new plan.rows (outs_of xs) → IsConcluded d plan xs hier
     → (e : Elaborated) × DesignElaborates d (Ok e) × IsHierarchyFor new.entries hier e × LogsDistinct old new e
 concluded d old new plan xs hier once stand turns legal of are is =
     let whole : IsPlanOf d plan.rows None = subst (IsPlanOf d plan.rows) is.whole of in

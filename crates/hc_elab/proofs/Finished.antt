@@ -78,10 +78,12 @@ done_there outs (k ∷ ks) kids e x m =
 done_same : (outs : List Outcome) (o : Outcome) (ks : List ℕ) → ((k : ℕ) → Has ks k → k < length outs) → all_done (outs ++ o ∷ []) ks ≡ all_done outs ks
 done_same outs o [] below = refl
 done_same outs o (k ∷ ks) below =
-    ap (λ x. put_first (outcome_in x) (all_done (outs ++ o ∷ []) ks)) (left_same outs o k (below k first)) ∙ ap (put_first (outcome_in (slice_get outs k))) (done_same outs o ks (λ j m. below j (later m)))
+    ap (λ x. put_first (outcome_in x) (all_done (outs ++ o ∷ []) ks)) (left_same outs o k (below k first)) ∙ ap (put_first (outcome_in (slice_get outs k)))
+    (done_same outs o ks (λ j m. below j (later m)))
 
 -- the entries of the children are there
-pub kids_there : (h : History) (outs : List Outcome) (row : PlanRow) (form : FormView) (masks : List ℕ) → AreThere h outs → IsReady outs row form masks → (id : EntryId) → Has form.kids id → id.0 < length h.entries
+pub kids_there : (h : History) (outs : List Outcome) (row : PlanRow) (form : FormView) (masks : List ℕ) → AreThere h outs → IsReady outs row form masks → (id : EntryId)
+    → Has form.kids id → id.0 < length h.entries
 kids_there h outs row form masks there ready id m =
     let kid : (x : Done) × Has ready.kids x × (x.0 ≡ id) = has_from_map (λ (x : Done). x.0) ready.kids id (ready.canon.known id m) in
     let at : (k : ℕ) × (slice_get outs k ≡ Some (Some kid.0)) = done_there outs row.kids ready.kids ready.done kid.0 kid.1 in
@@ -90,7 +92,9 @@ kids_there h outs row form masks there ready id m =
 -- ---- one row
 
 -- a row whose form was inserted is finished
-pub is_inserted : (old new : History) (outs : List Outcome) (row : PlanRow) (form : FormView) (masks : List ℕ) (id : EntryId) → IsReady outs row form masks → IsInserted old new form id → ((entry : EntryId) (kept : FormView) → HasForm old entry kept → HasForm new entry kept) → IsFinished old new outs row (Some (id, masks))
+pub is_inserted : (old new : History) (outs : List Outcome) (row : PlanRow) (form : FormView) (masks : List ℕ) (id : EntryId) → IsReady outs row form masks
+    → IsInserted old new form id → ((entry : EntryId) (kept : FormView) → HasForm old entry kept → HasForm new entry kept)
+    → IsFinished old new outs row (Some (id, masks))
 is_inserted old new outs row form masks id r i kept = record {
   outcome = finished r.kids id masks form r.done i.found r.canon r.right r.free;
   logs = record { added = entered id i.fresh form ∷ []; log = i.log; turns = refl };
@@ -122,7 +126,9 @@ pub row_checked : (d : Design) (rows : List PlanRow) (stop : Option Fault) → I
 row_checked d rows stop plan k row at = (let is : _ = (row_is d rows stop plan k row at).1 in body_checked d is.circuit row.call.args row.first row.body is.body)
 
 -- a row has a child for each instance of its circuit
-pub row_many : (d : Design) (rows : List PlanRow) (stop : Option Fault) → IsPlanOf d rows stop → ((c : CircuitText) (args : List ℤ) (path : Path) (b : Body) → BodyOf d c args path (Ok b) → AreChildrenOf d b) → (k : ℕ) (row : PlanRow) → slice_get rows k ≡ Some row → length row.kids ≡ length row.body.circuit.instances
+pub row_many : (d : Design) (rows : List PlanRow) (stop : Option Fault) → IsPlanOf d rows stop
+    → ((c : CircuitText) (args : List ℤ) (path : Path) (b : Body) → BodyOf d c args path (Ok b) → AreChildrenOf d b) → (k : ℕ) (row : PlanRow)
+    → slice_get rows k ≡ Some row → length row.kids ≡ length row.body.circuit.instances
 row_many d rows stop plan children k row at =
     let is : _ = (row_is d rows stop plan k row at).1 in
     sym (length-map row.kids (call_at rows)) ∙ ap length is.kids ∙ length-map row.body.children (λ (c : Child). Some c.call) ∙ (children is.circuit row.call.args row.first row.body is.body).many
@@ -130,7 +136,8 @@ row_many d rows stop plan children k row at =
 -- ---- one row after another
 
 -- An outcome stays as the entries grow, where what is done of the children is the same.
-pub outcome_stays : (K L : EntryId → FormView → Type 0) → ((id : EntryId) (form : FormView) → K id form → L id form) → (outs more : List Outcome) (row : PlanRow) (o : Outcome) → all_done more row.kids ≡ all_done outs row.kids → IsOutcome K outs row o → IsOutcome L more row o
+pub outcome_stays : (K L : EntryId → FormView → Type 0) → ((id : EntryId) (form : FormView) → K id form → L id form)
+    → (outs more : List Outcome) (row : PlanRow) (o : Outcome) → all_done more row.kids ≡ all_done outs row.kids → IsOutcome K outs row o → IsOutcome L more row o
 outcome_stays K L kept outs more row o same (finished kids id masks form all known canon right free) = finished kids id masks form (same ∙ all) (kept id form known) canon right free
 outcome_stays K L kept outs more row o same (looped kids all loop) = looped kids (same ∙ all) loop
 outcome_stays K L kept outs more row o same (passed_over none) = passed_over (same ∙ none)
@@ -139,7 +146,9 @@ outcome_stays K L kept outs more row o same (passed_over none) = passed_over (sa
 abbrev pub AreBelow : List PlanRow → Type 0
 AreBelow rows = (j : ℕ) (row : PlanRow) → slice_get rows j ≡ Some row → (k : ℕ) → Has row.kids k → k < j
 
-outcomes_more : (K L : EntryId → FormView → Type 0) → ((id : EntryId) (form : FormView) → K id form → L id form) → (rows : List PlanRow) (outs : List Outcome) (row : PlanRow) (o : Outcome) → AreBelow (rows ++ row ∷ []) → AreOutcomes K rows outs → IsOutcome L outs row o → AreOutcomes L (rows ++ row ∷ []) (outs ++ o ∷ [])
+outcomes_more : (K L : EntryId → FormView → Type 0) → ((id : EntryId) (form : FormView) → K id form → L id form)
+    → (rows : List PlanRow) (outs : List Outcome) (row : PlanRow) (o : Outcome) → AreBelow (rows ++ row ∷ []) → AreOutcomes K rows outs → IsOutcome L outs row o
+    → AreOutcomes L (rows ++ row ∷ []) (outs ++ o ∷ [])
 outcomes_more K L kept rows outs row o below are last = record { many = many; each = λ j r p at out. by j r p at out (cases_lt j (length rows)) }
   where
     many : length (outs ++ o ∷ []) ≡ length (rows ++ row ∷ [])
@@ -150,7 +159,8 @@ outcomes_more K L kept rows outs row o below are last = record { many = many; ea
         let m : length outs ≡ length rows = are.many in
         outcome_stays L L (λ id form e. e) outs (outs ++ o ∷ []) r p (done_same outs o r.kids (λ k h. (let b : k < j = below j r at k h in omega (arith, b, l, m)))) own
 
-    by : (j : ℕ) (r : PlanRow) (p : Outcome) → slice_get (rows ++ row ∷ []) j ≡ Some r → slice_get (outs ++ o ∷ []) j ≡ Some p → (j < length rows) ⊎ (length rows ≤ j) → IsOutcome L (outs ++ o ∷ []) r p
+    by : (j : ℕ) (r : PlanRow) (p : Outcome) → slice_get (rows ++ row ∷ []) j ≡ Some r → slice_get (outs ++ o ∷ []) j ≡ Some p → (j < length rows) ⊎ (length rows ≤ j)
+        → IsOutcome L (outs ++ o ∷ []) r p
     by j r p at out (inl l) =
         let m : length outs ≡ length rows = are.many in
         let row_at : slice_get rows j ≡ Some r = sym (left_same rows row j l) ∙ at in
@@ -184,7 +194,8 @@ outs_more (y ∷ xs) x = ap (λ l. outcome_of y ∷ l) (outs_more xs x)
 
 -- no row is finished yet
 pub none_yet : (h : History) (rows : List PlanRow) (xs : List (Option (EntryId × Paths))) → xs ≡ [] → AreFinished h h (take 0 rows) (outs_of xs)
-none_yet h rows xs e = subst (λ l. AreFinished h h (take 0 rows) (outs_of l)) (sym e) (record { outcomes = record { many = refl; each = λ k row o at out. cc }; logs = record { added = []; log = sym (append-nil (log h)); turns = refl } })
+none_yet h rows xs e = subst (λ l. AreFinished h h (take 0 rows) (outs_of l)) (sym e)
+    (record { outcomes = record { many = refl; each = λ k row o at out. cc }; logs = record { added = []; log = sym (append-nil (log h)); turns = refl } })
 
 -- the entries of rows that are finished are there
 pub are_there : (old h : History) (rows : List PlanRow) (outs : List Outcome) → AreFinished old h rows outs → AreThere h outs
@@ -208,9 +219,11 @@ taken_at (suc n) (y ∷ xs) zero x e = e
 taken_at (suc n) (y ∷ xs) (suc j) x e = taken_at n xs j x e
 
 -- one row more is finished
-pub one_more : (d : Design) (rows : List PlanRow) (stop : Option Fault) → IsPlanOf d rows stop → (i : ℕ) (row : PlanRow) → slice_get rows i ≡ Some row → (old mid new : History) (xs ls ys : List (Option (EntryId × Paths))) (x : Option (EntryId × Paths))
+pub one_more : (d : Design) (rows : List PlanRow) (stop : Option Fault) → IsPlanOf d rows stop → (i : ℕ) (row : PlanRow) → slice_get rows i ≡ Some row
+    → (old mid new : History) (xs ls ys : List (Option (EntryId × Paths))) (x : Option (EntryId × Paths))
     → AreFinished old mid (take i rows) (outs_of xs) → ls ≡ xs → IsFinished mid new (outs_of ls) row (outcome_of x) → ys ≡ xs ++ x ∷ [] → AreFinished old new (take (i + 1) rows) (outs_of ys)
-one_more d rows stop plan i row at old mid new xs ls ys x are same finish q = subst (λ t. AreFinished old new t (outs_of ys)) (sym taken) (subst (λ t. AreFinished old new (take i rows ++ row ∷ []) t) (sym outs) both)
+one_more d rows stop plan i row at old mid new xs ls ys x are same finish q = subst (λ t. AreFinished old new t (outs_of ys)) (sym taken)
+    (subst (λ t. AreFinished old new (take i rows ++ row ∷ []) t) (sym outs) both)
   where
     taken : take (i + 1) rows ≡ take i rows ++ row ∷ []
     taken = take_more rows i row (slice_get_within rows i row at) ∙ ap (λ r. take i rows ++ r ∷ []) (get_or_from_slice_get rows i row row at)

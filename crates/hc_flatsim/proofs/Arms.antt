@@ -35,7 +35,8 @@ rest_small : (x : BitVector) (xs : List BitVector) → (cat_all (x ∷ xs)).widt
 rest_small x [] l = omega arith
 rest_small x (y ∷ ys) l = let h : x.width + (cat_all (y ∷ ys)).width ≤ 128 = l in omega (arith, h)
 
-pub rest_fits : (g : Graph) (values : List BitVector) (parts : List NodeId) (id : NodeId) (rest : List NodeId) → parts ≡ id ∷ rest → (cat_all (map (operand g values) parts)).width ≤ 128 → (cat_all (map (operand g values) rest)).width ≤ 128
+pub rest_fits : (g : Graph) (values : List BitVector) (parts : List NodeId) (id : NodeId) (rest : List NodeId) → parts ≡ id ∷ rest
+    → (cat_all (map (operand g values) parts)).width ≤ 128 → (cat_all (map (operand g values) rest)).width ≤ 128
 rest_fits g values parts id rest e l = rest_small (operand g values id) (map (operand g values) rest) (subst (λ (p : List NodeId). (cat_all (map (operand g values) p)).width ≤ 128) e l)
 
 pub rest_within : (g : Graph) (parts : List NodeId) (id : NodeId) (rest : List NodeId) → parts ≡ id ∷ rest → AreWithin g parts → AreWithin g rest
@@ -97,7 +98,8 @@ module _ (g : Graph) (l : IsLawful g) (given : Given) (fits : IsGiven g given) (
       let whole : x ≡ cat_all (map (operand g values) parts) = e ∙ ap (λ (p : List NodeId). cat_all (map (operand g values) p)) same in
       arm g given values n row (Cat parts) x is (ap (λ (b : BitVector). b.width) whole ∙ cat_total parts is) (ap (λ (b : BitVector). b.value) whole)
 
-  pub mux_arm : (sel : NodeId) (cases all : List NodeId) (s x : BitVector) → row.node ≡ Mux sel cases → all ≡ cases → s ≡ operand g values sel → x ≡ mux s (map (operand g values) all) → x ≡ own_vector g given values n row
+  pub mux_arm : (sel : NodeId) (cases all : List NodeId) (s x : BitVector) → row.node ≡ Mux sel cases → all ≡ cases → s ≡ operand g values sel
+      → x ≡ mux s (map (operand g values) all) → x ≡ own_vector g given values n row
   mux_arm sel cases all s x is same picked e =
       let h = node_lawful (Mux sel cases) is in
       let whole : x ≡ mux (operand g values sel) (map (operand g values) cases) = e ∙ ap₂ (λ (b : BitVector) (p : List NodeId). mux b (map (operand g values) p)) picked same in
@@ -116,7 +118,8 @@ module _ (g : Graph) (l : IsLawful g) (given : Given) (fits : IsGiven g given) (
       subst (λ (p : List NodeId). AreLawful kind (map (operand g values) p)) (sym same)
       (length-map args (operand g values) ∙ h.1, one_width (map (operand g values) args) h.0 (cases_widths g values args h.0 h.2))
 
-  pub operation_arm : (kind : OpKind) (args all : List NodeId) (x : BitVector) → row.node ≡ Op kind args → all ≡ args → x ≡ operation kind (map (operand g values) all) → x ≡ own_vector g given values n row
+  pub operation_arm : (kind : OpKind) (args all : List NodeId) (x : BitVector) → row.node ≡ Op kind args → all ≡ args → x ≡ operation kind (map (operand g values) all)
+      → x ≡ own_vector g given values n row
   operation_arm kind args all x is same e =
       let h = node_lawful (Op kind args) is in
       let whole : x ≡ operation kind (map (operand g values) args) = e ∙ ap (λ (p : List NodeId). operation kind (map (operand g values) p)) same in
@@ -138,7 +141,8 @@ module _ (g : Graph) (l : IsLawful g) (given : Given) (fits : IsGiven g given) (
   pub register_within : n < length given.registers
   register_within = value_within g given.registers n fits.registers (slice_get_within g.nodes n row at)
 
-  pub register_arm : (next : NodeId) (enable : Option NodeId) (clear : Option (NodeId × BitVector)) (init x : BitVector) → row.node ≡ Reg next enable clear init → x ≡ get_or given.registers n x → x ≡ own_vector g given values n row
+  pub register_arm : (next : NodeId) (enable : Option NodeId) (clear : Option (NodeId × BitVector)) (init x : BitVector) → row.node ≡ Reg next enable clear init
+      → x ≡ get_or given.registers n x → x ≡ own_vector g given values n row
   register_arm next enable clear init x is e =
       arm g given values n row (Reg next enable clear init) x is
       (alike (λ (b : BitVector). b.width) (λ (r : NodeRow). r.width) given.registers g.nodes fits.registers n row x at e)
@@ -150,10 +154,12 @@ module _ (g : Graph) (l : IsLawful g) (given : Given) (fits : IsGiven g given) (
       let whole : x ≡ record { width = h.0.width; value = slice_index (numbers given.inputs) port } = output_is given.inputs g.ports.inputs given.inputs port x h.0 fits.inputs refl e h.1 in
       arm g given values n row (Input port) x is (ap (λ (b : BitVector). b.width) whole ∙ h.2) (ap (λ (b : BitVector). b.value) whole)
 
-  pub read_arm : (m : MemId) (addr : NodeId) (a x : BitVector) → row.node ≡ Read m addr → a ≡ operand g values addr → x ≡ word_or_zero row.width (slice_get (words_at given.memories m.0) a.value) → x ≡ own_vector g given values n row
+  pub read_arm : (m : MemId) (addr : NodeId) (a x : BitVector) → row.node ≡ Read m addr → a ≡ operand g values addr
+      → x ≡ word_or_zero row.width (slice_get (words_at given.memories m.0) a.value) → x ≡ own_vector g given values n row
   read_arm m addr a x is picked e =
       let h = node_lawful (Read m addr) is in
-      let w : (words : List BitVector) × (slice_get given.memories m.0 ≡ Some words) × (widths words ≡ memory_widths h.2.0) = found widths memory_widths given.memories g.memories m.0 h.2.0 fits.memories h.2.1 in
+      let w : (words : List BitVector) × (slice_get given.memories m.0 ≡ Some words)
+      × (widths words ≡ memory_widths h.2.0) = found widths memory_widths given.memories g.memories m.0 h.2.0 fits.memories h.2.1 in
       let words : List BitVector = words_at given.memories m.0 in
       let k : ℕ = number_at values addr.0 in
       let whole : x ≡ word_or_zero row.width (slice_get words k) = e ∙ ap (λ (b : BitVector). word_or_zero row.width (slice_get words b.value)) picked in
@@ -163,7 +169,8 @@ module _ (g : Graph) (l : IsLawful g) (given : Given) (fits : IsGiven g given) (
       (ap (λ (b : BitVector). b.value) whole ∙ word_number row.width (slice_get words k) ∙ sym (number_index words k))
 
 -- a node's value in place of its old one
-pub value_set : (g : Graph) (given : Given) (values : List BitVector) (n : ℕ) (row : NodeRow) (x : BitVector) → widths values ≡ node_widths g.nodes → slice_get g.nodes n ≡ Some row → x ≡ own_vector g given values n row → widths (slice_set values n x) ≡ node_widths g.nodes
+pub value_set : (g : Graph) (given : Given) (values : List BitVector) (n : ℕ) (row : NodeRow) (x : BitVector) → widths values ≡ node_widths g.nodes
+    → slice_get g.nodes n ≡ Some row → x ≡ own_vector g given values n row → widths (slice_set values n x) ≡ node_widths g.nodes
 value_set g given values n row x e at is =
     let y : (y : BitVector) × (slice_get values n ≡ Some y) × (y.width ≡ row.width) = found (λ (b : BitVector). b.width) (λ (r : NodeRow). r.width) values g.nodes n row e at in
     same_set (λ (b : BitVector). b.width) values n x y.0 y.1 (ap (λ (b : BitVector). b.width) is ∙ sym y.2) ∙ e

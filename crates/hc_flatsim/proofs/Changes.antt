@@ -30,7 +30,8 @@ updated_other f (n ∷ places) m xs d =
     updated_other f places m (replaced (f n) n xs) (λ h. d (later h)) ∙ replaced_other (f n) n m xs (λ e. d (subst (λ k. Has (n ∷ places) k) e first))
 
 -- what stands at one of the places changes once
-pub updated_here : {X : Type 0} (f : ℕ → X → X) (places : List ℕ) (m : ℕ) (xs : List X) (x : X) → AllDifferent places → Has places m → slice_get xs m ≡ Some x → slice_get (updated f places xs) m ≡ Some (f m x)
+pub updated_here : {X : Type 0} (f : ℕ → X → X) (places : List ℕ) (m : ℕ) (xs : List X) (x : X) → AllDifferent places → Has places m → slice_get xs m ≡ Some x
+    → slice_get (updated f places xs) m ≡ Some (f m x)
 updated_here f [] m xs x d h at = elim h [ ]
 updated_here f (n ∷ places) _ xs x d first at = updated_other f places n (replaced (f n) n xs) d.0 ∙ replaced_here (f n) n xs x at
 updated_here f (n ∷ places) m xs x d (later h) at =

@@ -20,7 +20,8 @@ use Rattle.hc_flatsim.specs.Edges.{initial_of}
 use Rattle.hc_flatsim.proofs.Shapes.{operand_width, id_within}
 
 -- a value of the right width and number is the node's
-pub arm : (g : Graph) (given : Given) (values : List BitVector) (n : ℕ) (row : NodeRow) (node : Node) (x : BitVector) → row.node ≡ node → x.width ≡ row.width → x.value ≡ own_value g given values n node → x ≡ own_vector g given values n row
+pub arm : (g : Graph) (given : Given) (values : List BitVector) (n : ℕ) (row : NodeRow) (node : Node) (x : BitVector) → row.node ≡ node → x.width ≡ row.width
+    → x.value ≡ own_value g given values n node → x ≡ own_vector g given values n row
 arm g given values n row node x is w v = ap₂ (λ (i j : ℕ). record { width = i; value = j }) w (v ∙ sym (ap (own_value g given values n) is))
 
 pub all_within : (g : Graph) (ids : List NodeId) (w : ℕ) → AllHaveWidth g ids w → AreWithin g ids
@@ -61,7 +62,8 @@ mux_width s xs w l h =
     ap (λ (b : BitVector). b.width) (sym is) ∙ h r (has_slice xs place r at)
 
 -- what is picked by its place, from cases that are read one by one
-pub mux_picks : (g : Graph) (values : List BitVector) (s : BitVector) (ids : List NodeId) (place : ℕ) (id : NodeId) (r : BitVector) → 1 ≤ length ids → place ≡ min s.value (length ids - 1) → slice_get ids place ≡ Some id → r ≡ operand g values id → r ≡ mux s (map (operand g values) ids)
+pub mux_picks : (g : Graph) (values : List BitVector) (s : BitVector) (ids : List NodeId) (place : ℕ) (id : NodeId) (r : BitVector) → 1 ≤ length ids
+    → place ≡ min s.value (length ids - 1) → slice_get ids place ≡ Some id → r ≡ operand g values id → r ≡ mux s (map (operand g values) ids)
 mux_picks g values s ids place id r l e at is =
     let xs : List BitVector = map (operand g values) ids in
     let many : length xs ≡ length ids = length-map ids (operand g values) in

@@ -60,7 +60,9 @@ module _ (m : Machine) (is : IsMachine m) where
   abbrev rows_many : length m.values ≡ length m.graph.nodes
   rows_many = many (λ (x : BitVector). x.width) (λ (row : NodeRow). row.width) m.values m.graph.nodes is.values
 
-  settles_at : (p : List ℕ) (n : ℕ) (row : NodeRow) → IsReachedPath (leaf m.graph) p → Reached (graph_at (leaf m.graph) p) (node n) → slice_get (graph_at (leaf m.graph) p).nodes n ≡ Some row → number_at settled_values n ≡ value (leaf m.graph) (state_of m) (numbers m.inputs) (valuation settled_values) p n row.node
+  settles_at : (p : List ℕ) (n : ℕ) (row : NodeRow) → IsReachedPath (leaf m.graph) p → Reached (graph_at (leaf m.graph) p) (node n)
+      → slice_get (graph_at (leaf m.graph) p).nodes n ≡ Some row
+      → number_at settled_values n ≡ value (leaf m.graph) (state_of m) (numbers m.inputs) (valuation settled_values) p n row.node
   settles_at [] n row r reached at =
       computed m.graph (given_of m) m.order m.values is.schedule rows_many (record { 0 = n }) row ((is.schedule.all (record { 0 = n })).1 reached) at
       ∙ own_is settled_values n row row.node at refl reached

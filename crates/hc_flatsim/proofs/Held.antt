@@ -95,7 +95,8 @@ module _ (g : Graph) where
   among_has (x ∷ ids) _ first t = subst (λ l. Has l x) (sym (ap (λ (b : Bool). if b then x ∷ registers_among g ids else registers_among g ids) t)) first
   among_has (x ∷ ids) id (later h) t = later_if (is_at x) x (registers_among g ids) id (among_has ids id h t)
 
-  from_if : (b : Bool) (x : NodeId) (l ids : List NodeId) (id : NodeId) → is_at x ≡ b → (Has l id → Has ids id × (is_at id ≡ true)) → Has (if b then x ∷ l else l) id → Has (x ∷ ids) id × (is_at id ≡ true)
+  from_if : (b : Bool) (x : NodeId) (l ids : List NodeId) (id : NodeId) → is_at x ≡ b → (Has l id → Has ids id × (is_at id ≡ true)) → Has (if b then x ∷ l else l) id
+      → Has (x ∷ ids) id × (is_at id ≡ true)
   from_if true x l ids _ e more first = (first, e)
   from_if true x l ids id e more (later h) = (later (more h).0, (more h).1)
   from_if false x l ids id e more h = (later (more h).0, (more h).1)
@@ -181,9 +182,11 @@ module _ (m : Machine) (is : IsMachine m) where
   words_many : (n : ℕ) (row : Memory) → slice_get m.graph.memories n ≡ Some row → length (numbers (words_at m.memories n)) ≡ row.size
   words_many n row at =
       let w : (words : List BitVector) × (slice_get m.memories n ≡ Some words) × (widths words ≡ memory_widths row) = words_found n row at in
-      ap (λ o. length (numbers (words_of o))) w.1 ∙ length-map w.0 (λ (x : BitVector). x.value) ∙ sym (length-map w.0 (λ (x : BitVector). x.width)) ∙ ap length w.2 ∙ length-replicate row.size row.width
+      ap (λ o. length (numbers (words_of o))) w.1 ∙ length-map w.0 (λ (x : BitVector). x.value) ∙ sym (length-map w.0 (λ (x : BitVector). x.width)) ∙ ap length w.2
+      ∙ length-replicate row.size row.width
 
-  mem_to : (p : List ℕ) (n size : ℕ) → IsMemory (leaf m.graph) (record { path = p; node = n }) size → (words : List ℕ) × Has (state_of m).memories (record { path = p; node = n }, words) × (length words ≡ size)
+  mem_to : (p : List ℕ) (n size : ℕ) → IsMemory (leaf m.graph) (record { path = p; node = n }) size
+      → (words : List ℕ) × Has (state_of m).memories (record { path = p; node = n }, words) × (length words ≡ size)
   mem_to [] n size r =
       (numbers (words_at m.memories n), has_map mem_pair ((is.used (record { 0 = n })).1 r.2), words_many n r.0 r.3 ∙ r.4)
   mem_to (i ∷ p) n size r = absurd (no_path m.graph is.lawful is.flat.instances i p r.1)

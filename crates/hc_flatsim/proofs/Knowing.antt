@@ -95,7 +95,8 @@ note_before_of m = record m { before = map (operand m.graph m.values) m.graph.ou
 abbrev pub note_after_of : Machine → Machine
 note_after_of m = record m { after = map (operand m.graph m.values) m.graph.outputs }
 
-pub runs_cycle : (m a b c d e : Machine) → simulation_of a ≡ simulation_of m → AreSettled a → b ≡ note_before_of a → simulation_of c ≡ after_edge b → simulation_of d ≡ simulation_of c → AreSettled d → e ≡ note_after_of d → RunsCycle (simulation_of m) (simulation_of e)
+pub runs_cycle : (m a b c d e : Machine) → simulation_of a ≡ simulation_of m → AreSettled a → b ≡ note_before_of a → simulation_of c ≡ after_edge b
+    → simulation_of d ≡ simulation_of c → AreSettled d → e ≡ note_after_of d → RunsCycle (simulation_of m) (simulation_of e)
 runs_cycle m a b c d e p first q r s second t =
     cycle_of (simulation_of m) (simulation_of a) (simulation_of (note_before_of a)) (simulation_of c) (simulation_of d) (simulation_of e) (valuation a.values) (valuation d.values) p first
     (ap (λ (l : List ℕ). let z : Simulation = record (simulation_of a) { before = l } in z) (outputs_are a.graph a.values a.graph.outputs))

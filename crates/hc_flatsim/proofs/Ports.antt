@@ -34,11 +34,13 @@ pub noted_widths : (g : Graph) (values to : List BitVector) → IsLawful g → t
 noted_widths g values to l e = ap widths e ∙ parts_widths g values g.outputs (port_widths g.ports.outputs) l.outputs
 
 -- an output that is read
-pub output_is : (xs : List BitVector) (ports : List Port) (all : List BitVector) (n : ℕ) (x : BitVector) (p : Port) → widths xs ≡ port_widths ports → all ≡ xs → x ≡ get_or all n x → slice_get ports n ≡ Some p → x ≡ record { width = p.width; value = slice_index (numbers xs) n }
+pub output_is : (xs : List BitVector) (ports : List Port) (all : List BitVector) (n : ℕ) (x : BitVector) (p : Port) → widths xs ≡ port_widths ports → all ≡ xs
+    → x ≡ get_or all n x → slice_get ports n ≡ Some p → x ≡ record { width = p.width; value = slice_index (numbers xs) n }
 output_is xs ports all n x p e same is at =
     let here : x ≡ get_or xs n x = is ∙ ap (λ (l : List BitVector). get_or l n x) same in
     let got : slice_get xs n ≡ Some x = read_at (λ (b : BitVector). b.width) (λ (q : Port). q.width) xs ports e n p x at here in
-    let value : slice_index (numbers xs) n ≡ x.value = get_or_from_slice_get (numbers xs) n x.value 0 (slice_get-map (λ (b : BitVector). b.value) xs n ∙ ap (option_map (λ (b : BitVector). b.value)) got) in
+    let value : slice_index (numbers xs) n ≡ x.value = get_or_from_slice_get (numbers xs) n x.value 0
+    (slice_get-map (λ (b : BitVector). b.value) xs n ∙ ap (option_map (λ (b : BitVector). b.value)) got) in
     ap₂ (λ (w v : ℕ). record { width = w; value = v }) (alike (λ (b : BitVector). b.width) (λ (q : Port). q.width) xs ports e n p x at here) (sym value)
 
 -- an input that is set
@@ -57,7 +59,8 @@ numbers_set [] n x = refl
 numbers_set (y ∷ xs) zero x = refl
 numbers_set (y ∷ xs) (suc n) x = ap (λ (l : List ℕ). y.value ∷ l) (numbers_set xs n x)
 
-pub set_is : (m new : Machine) (n : ℕ) (x : BitVector) → new ≡ record m { inputs = slice_set m.inputs n x; known = Nothing } → simulation_of new ≡ record (simulation_of m) { inputs = slice_set (simulation_of m).inputs n x.value }
+pub set_is : (m new : Machine) (n : ℕ) (x : BitVector) → new ≡ record m { inputs = slice_set m.inputs n x; known = Nothing }
+    → simulation_of new ≡ record (simulation_of m) { inputs = slice_set (simulation_of m).inputs n x.value }
 set_is m new n x e = ap simulation_of e ∙ ap (λ (l : List ℕ). let s : Simulation = record (simulation_of m) { inputs = l } in s) (numbers_set m.inputs n x)
 
 pub set_same : (m : Machine) (n : ℕ) (x : BitVector) → slice_set m.inputs n x ≡ m.inputs → simulation_of m ≡ record (simulation_of m) { inputs = slice_set (simulation_of m).inputs n x.value }
@@ -69,5 +72,6 @@ set_read [] n d x l e = refl
 set_read (y ∷ xs) zero d x l e = ap (λ z. z ∷ xs) (sym e)
 set_read (y ∷ xs) (suc n) d x l e = ap (λ z. y ∷ z) (set_read xs n d x (omega (arith, l)) e)
 
-pub reset_is : (m new : Machine) → IsMachine m → new ≡ record m { registers = initial_registers m.graph m.clocked m.registers; known = Nothing } → simulation_of new ≡ record (simulation_of m) { state = reset (simulation_of m).tree (simulation_of m).state }
+pub reset_is : (m new : Machine) → IsMachine m → new ≡ record m { registers = initial_registers m.graph m.clocked m.registers; known = Nothing }
+    → simulation_of new ≡ record (simulation_of m) { state = reset (simulation_of m).tree (simulation_of m).state }
 reset_is m new is e = ap simulation_of e ∙ sym (ap (λ s. let t : Simulation = record (simulation_of m) { state = s } in t) (reset_state m is))

@@ -25,7 +25,8 @@ with_row_other : (g : Graph) (given : Given) (values : List BitVector) (n m : �
 with_row_other g given values n m None d = refl
 with_row_other g given values n m (Some row) d = get_set_other values n m (own_vector g given values n row) d
 
-with_row_here : (g : Graph) (given : Given) (values : List BitVector) (n : ℕ) (o : Option NodeRow) (row : NodeRow) → o ≡ Some row → n < length values → slice_get (with_row g given values n o) n ≡ Some (own_vector g given values n row)
+with_row_here : (g : Graph) (given : Given) (values : List BitVector) (n : ℕ) (o : Option NodeRow) (row : NodeRow) → o ≡ Some row → n < length values
+    → slice_get (with_row g given values n o) n ≡ Some (own_vector g given values n row)
 with_row_here g given values n None row e l = absurd (cc)
 with_row_here g given values n (Some r) row e l = get_set_same values n (own_vector g given values n r) l ∙ ap (λ z. Some (own_vector g given values n z)) (same_Some _ _ e)
 

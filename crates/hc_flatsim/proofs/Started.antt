@@ -54,7 +54,8 @@ differ_among (Node n ∷ vertices) d = differ_among vertices d.1
 differ_among (Memory m ∷ vertices) d = (λ h. d.0 (mem_among vertices m h), differ_among vertices d.1)
 differ_among (Instance i ∷ vertices) d = differ_among vertices d.1
 
-pub memories_met : (g : Graph) (met given : List VertexId) (ids : List MemId) → given ≡ met → ids ≡ memories_among given → ((v : Vertex) → Has (vertices_of met) v ↔ Reached g v) → (id : MemId) → Has ids id ↔ Reached g (mem id.0)
+pub memories_met : (g : Graph) (met given : List VertexId) (ids : List MemId) → given ≡ met → ids ≡ memories_among given
+    → ((v : Vertex) → Has (vertices_of met) v ↔ Reached g v) → (id : MemId) → Has ids id ↔ Reached g (mem id.0)
 memories_met g met given ids e f r id =
     let k : ids ≡ memories_among met = f ∙ ap memories_among e in (
       λ h. (r (mem id.0)).0 (mem_among met id (subst (λ (l : List MemId). Has l id) k h)),
@@ -105,21 +106,26 @@ module _ (m : Machine) (is : IsMachine m) (start : List BitVector) (start_widths
   register_starts : (id : NodeId) → Has regs id → initial_register (leaf m.graph) (pair id) ≡ pair id
   register_starts id c =
       let r = reg_row m is id c in
-      let x : (x : BitVector) × (slice_get start id.0 ≡ Some x) × (x.width ≡ r.0.width) = found (λ (b : BitVector). b.width) (λ (row : NodeRow). row.width) start m.graph.nodes id.0 r.0 start_widths r.1 in
+      let x : (x : BitVector) × (slice_get start id.0 ≡ Some x) × (x.width ≡ r.0.width) = found (λ (b : BitVector). b.width)
+      (λ (row : NodeRow). row.width) start m.graph.nodes id.0 r.0 start_widths r.1 in
       let new : slice_get m.registers id.0 ≡ Some (initial_register_at m.graph id.0 x.0) =
       ap (λ (l : List BitVector). slice_get l id.0) registers_are
-      ∙ updated_here (initial_register_at m.graph) (places m.clocked) id.0 start x.0 (places_differ m is) (has_map (λ (i : NodeId). i.0) (subst (λ (l : List NodeId). Has l id) (sym is.clocked) c)) x.1 in
+      ∙ updated_here (initial_register_at m.graph) (places m.clocked) id.0 start x.0 (places_differ m is)
+      (has_map (λ (i : NodeId). i.0) (subst (λ (l : List NodeId). Has l id) (sym is.clocked) c)) x.1 in
       ap (λ (o : Option NodeRow). (at_node id.0, init_row o)) r.1 ∙ ap (λ (z : NodeOf). (at_node id.0, init_node z)) r.2.4
-      ∙ sym (ap (λ o. (at_node id.0, number_of o)) new ∙ ap (λ (o : Option NodeRow). (at_node id.0, (initial_of_row o x.0).value)) r.1 ∙ ap (λ (z : NodeOf). (at_node id.0, (initial_of z x.0).value)) r.2.4)
+      ∙ sym (ap (λ o. (at_node id.0, number_of o)) new ∙ ap (λ (o : Option NodeRow). (at_node id.0, (initial_of_row o x.0).value)) r.1
+      ∙ ap (λ (z : NodeOf). (at_node id.0, (initial_of z x.0).value)) r.2.4)
 
   all_zero : (xs : List ℕ) (n : ℕ) → xs ≡ replicate n 0 → xs ≡ replicate (length xs) 0
   all_zero xs n e = e ∙ ap (λ k. replicate k 0) (sym (ap length e ∙ length-replicate n 0))
 
   words_start : (s : Occurrence) (words : List ℕ) → Has (state_of m).memories (s, words) → words ≡ replicate (length words) 0
   words_start s words h =
-      let u : (id : MemId) × Has m.used id × ((at_node id.0, numbers (words_at m.memories id.0)) ≡ (s, words)) = has_from_map (λ (id : MemId). (at_node id.0, numbers (words_at m.memories id.0))) m.used (s, words) h in
+      let u : (id : MemId) × Has m.used id × ((at_node id.0, numbers (words_at m.memories id.0)) ≡ (s, words)) = has_from_map
+      (λ (id : MemId). (at_node id.0, numbers (words_at m.memories id.0))) m.used (s, words) h in
       let row : HasRow m.graph (mem u.0.0) = reached_row m.graph is.lawful ((is.used u.0).0 u.1) in
-      let here : slice_get m.memories u.0.0 ≡ Some (zeros_of_memory row.0) = ap (λ (l : List (List BitVector)). slice_get l u.0.0) memories_are ∙ slice_get-map zeros_of_memory m.graph.memories u.0.0 ∙ ap (option_map zeros_of_memory) row.1 in
+      let here : slice_get m.memories u.0.0 ≡ Some (zeros_of_memory row.0) = ap (λ (l : List (List BitVector)). slice_get l u.0.0) memories_are
+      ∙ slice_get-map zeros_of_memory m.graph.memories u.0.0 ∙ ap (option_map zeros_of_memory) row.1 in
       let zeros : words ≡ replicate row.0.size 0 =
       sym (ap (λ (q : Occurrence × List ℕ). q.1) u.2) ∙ ap (λ (o : Option (List BitVector)). numbers (words_of o)) here ∙ map_replicate (λ (b : BitVector). b.value) row.0.size (zero_of row.0.width) in
       all_zero words row.0.size zeros

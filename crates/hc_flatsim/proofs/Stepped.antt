@@ -64,7 +64,8 @@ module _ (m : Machine) (is : IsMachine m) where
     one_changed : (id : NodeId) → Has regs id → h (pair m.registers id) ≡ pair (updated f (places m.clocked) m.registers) id
     one_changed id c =
         let r = reg_row m is id c in
-        let x : (x : BitVector) × (slice_get m.registers id.0 ≡ Some x) × (x.width ≡ r.0.width) = found (λ (b : BitVector). b.width) (λ (row : NodeRow). row.width) m.registers m.graph.nodes id.0 r.0 is.registers r.1 in
+        let x : (x : BitVector) × (slice_get m.registers id.0 ≡ Some x) × (x.width ≡ r.0.width) = found (λ (b : BitVector). b.width)
+        (λ (row : NodeRow). row.width) m.registers m.graph.nodes id.0 r.0 is.registers r.1 in
         let new : slice_get (updated f (places m.clocked) m.registers) id.0 ≡ Some (f id.0 x.0) =
         updated_here f (places m.clocked) id.0 m.registers x.0 places_differ (has_map (λ (i : NodeId). i.0) (subst (λ (l : List NodeId). Has l id) (sym is.clocked) c)) x.1 in
         ap (λ o. h (at_node id.0, number_of o)) x.1 ∙ a id c x.0 x.1 ∙ sym (ap (λ o. (at_node id.0, number_of o)) new)
@@ -72,7 +73,8 @@ module _ (m : Machine) (is : IsMachine m) where
     changed : map h (map (pair m.registers) regs) ≡ map (pair (updated f (places m.clocked) m.registers)) regs
     changed = pairs_agree h (pair m.registers) (pair (updated f (places m.clocked) m.registers)) regs one_changed
 
-  reset_one : (id : NodeId) → Has regs id → (x : BitVector) → slice_get m.registers id.0 ≡ Some x → initial_register (leaf m.graph) (at_node id.0, x.value) ≡ (at_node id.0, (initial_register_at m.graph id.0 x).value)
+  reset_one : (id : NodeId) → Has regs id → (x : BitVector) → slice_get m.registers id.0 ≡ Some x
+      → initial_register (leaf m.graph) (at_node id.0, x.value) ≡ (at_node id.0, (initial_register_at m.graph id.0 x).value)
   reset_one id c x at =
       let r = reg_row m is id c in
       ap (λ (o : Option NodeRow). (at_node id.0, init_row o)) r.1 ∙ ap (λ (z : Node). (at_node id.0, init_node z)) r.2.4
@@ -81,7 +83,8 @@ module _ (m : Machine) (is : IsMachine m) where
   pub reset_state : reset (leaf m.graph) (state_of m) ≡ state_of (record m { registers = initial_registers m.graph m.clocked m.registers })
   reset_state = ap (λ l. record { registers = l; memories = (state_of m).memories }) (changed (initial_register_at m.graph) (initial_register (leaf m.graph)) reset_one)
 
-  next_one : (id : NodeId) → Has regs id → (x : BitVector) → slice_get m.registers id.0 ≡ Some x → next_register (leaf m.graph) (valuation m.values) (at_node id.0, x.value) ≡ (at_node id.0, (next_register_at m.graph m.values id.0 x).value)
+  next_one : (id : NodeId) → Has regs id → (x : BitVector) → slice_get m.registers id.0 ≡ Some x
+      → next_register (leaf m.graph) (valuation m.values) (at_node id.0, x.value) ≡ (at_node id.0, (next_register_at m.graph m.values id.0 x).value)
   next_one id c x at =
       let r = reg_row m is id c in
       ap (λ (o : Option NodeRow). (at_node id.0, next_by (valuation m.values) x.value o)) r.1

@@ -60,7 +60,8 @@ module _ (t : Tree) (w : IsGood t) (g : Graph) (f : IsFlat t g) where
   to_back path p (mem m) r h e = record { path = path; place = m; reached = flat.to_mem r h; number = refl }
   to_back path p (inst i) r h e = cc
 
-  next_back : (path : List ℕ) (p to : Vertex) → FlatReached t path p → ((q : Vertex) → Has (fanin (graph_at t path) p) q → is_inst q ≡ false) → Has (map (renumber (new path)) (fanin (graph_at t path) p)) to → Back to
+  next_back : (path : List ℕ) (p to : Vertex) → FlatReached t path p → ((q : Vertex) → Has (fanin (graph_at t path) p) q → is_inst q ≡ false)
+      → Has (map (renumber (new path)) (fanin (graph_at t path) p)) to → Back to
   next_back path p to r nots h =
       let x : _ = has_from_map (renumber (new path)) (fanin (graph_at t path) p) to h in
       subst Back x.2 (to_back path p x.0 r x.1 (nots x.0 x.1))
@@ -73,7 +74,8 @@ module _ (t : Tree) (w : IsGood t) (g : Graph) (f : IsFlat t g) where
   back_further (mem m) q s h =
       next_back s.path (mem s.place) q s.reached
       (λ v k. memory_not (slice_get (graph_at t s.path).memories s.place) v k)
-      (subst (λ l. Has l q) (ap (λ k. fanin_of_memory (slice_get g.memories k)) (sym s.number) ∙ ap fanin_of_memory (f.memories s.path s.place s.reached) ∙ memory_parts_by (new s.path) (slice_get (graph_at t s.path).memories s.place)) h)
+      (subst (λ l. Has l q) (ap (λ k. fanin_of_memory (slice_get g.memories k)) (sym s.number) ∙ ap fanin_of_memory (f.memories s.path s.place s.reached)
+      ∙ memory_parts_by (new s.path) (slice_get (graph_at t s.path).memories s.place)) h)
     where
       memory_not : (o : Option Memory) (v : Vertex) → Has (fanin_of_memory o) v → is_inst v ≡ false
       memory_not None v k = elim k [ ]
@@ -118,7 +120,8 @@ module _ (t : Tree) (w : IsGood t) (g : Graph) (f : IsFlat t g) where
     pub step : CombStep t s.spot.path s.spot.node mid.path mid.node
     pub rest : CombPath t mid.path mid.node end.spot.path end.spot.node
 
-  comb_reached : (path : List ℕ) (n : ℕ) (row : NodeRow) (id : NodeId) → slice_get (graph_at t path).nodes n ≡ Some row → FlatReached t path (node n) → Has (comb_fanin row.node) id → FlatReached t path (node id.0)
+  comb_reached : (path : List ℕ) (n : ℕ) (row : NodeRow) (id : NodeId) → slice_get (graph_at t path).nodes n ≡ Some row → FlatReached t path (node n)
+      → Has (comb_fanin row.node) id → FlatReached t path (node id.0)
   comb_reached path n row id e r h = flat.to_node r (subst (λ o. Has (fanin_of_row o) (node id.0)) (sym e) (comb_fanin_fanin row.node id h))
 
   inner_step : (n m : ℕ) (s : IsOf n) (x : Node) → NodeAt g n x → Has (comb_fanin x) (record { 0 = m }) → IsStep n m s
@@ -136,7 +139,8 @@ module _ (t : Tree) (w : IsGood t) (g : Graph) (f : IsFlat t g) where
 
   one_step : {p q : List ℕ} {n m : ℕ} → CombStep (leaf g) p n q m → p ≡ [] → (s : IsOf n) → (q ≡ []) × IsStep n m s
   one_step {p} {n = n} {m = m} (inside x y h) e s = (e, inner_step n m s x (y.0, subst (λ z. slice_get (graph_at (leaf g) z).nodes n ≡ Some y.0) e y.1, y.2) h)
-  one_step {p} {n = n} (down {i = i} port y o) e s = absurd (was_output (new s.spot.path) s.spot.path s.row.node (record { 0 = i }) port s.kept (node_new n s (InstOut (record { 0 = i }) port) (y.0, subst (λ z. slice_get (graph_at (leaf g) z).nodes n ≡ Some y.0) e y.1, y.2)))
+  one_step {p} {n = n} (down {i = i} port y o) e s = absurd (was_output (new s.spot.path) s.spot.path s.row.node (record { 0 = i }) port s.kept
+      (node_new n s (InstOut (record { 0 = i }) port) (y.0, subst (λ z. slice_get (graph_at (leaf g) z).nodes n ≡ Some y.0) e y.1, y.2)))
   one_step (up port y o) e s = cc
 
   record IsWalk (n m : ℕ) (s : IsOf n) : Type 0 where
@@ -151,7 +155,8 @@ module _ (t : Tree) (w : IsGood t) (g : Graph) (f : IsFlat t g) where
       record { end = y.end; path = on x.1.step (path_then t x.1.rest y.path) }
 
   same_spot : (n : ℕ) (a b : IsOf n) → a.spot ≡ b.spot
-  same_spot n a b = sym (f.own_number a.spot a.reached (a.is_reached, (a.row, a.found, a.kept))) ∙ ap f.node_back (a.number ∙ sym b.number) ∙ f.own_number b.spot b.reached (b.is_reached, (b.row, b.found, b.kept))
+  same_spot n a b = sym (f.own_number a.spot a.reached (a.is_reached, (a.row, a.found, a.kept))) ∙ ap f.node_back (a.number ∙ sym b.number)
+      ∙ f.own_number b.spot b.reached (b.is_reached, (b.row, b.found, b.kept))
 
   pub loop_back : HasCombLoop (leaf g) → HasCombLoop t
   loop_back x =

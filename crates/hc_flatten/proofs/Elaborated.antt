@@ -44,7 +44,8 @@ times_has id (k ∷ kids) le = by (λ more. times_has id kids more) (k.entry.0 =
     by : (1 ≤ times id (map entry_of kids) → (j : CallRow) × Has kids j × (j.entry ≡ id)) → (b : Bool) → (k.entry.0 == id.0) ≡ b → (j : CallRow) × Has (k ∷ kids) j × (j.entry ≡ id)
     by more true e = (k, first, ap (λ (n : ℕ). let i : EntryId = record { 0 = n } in i) ((Decides-eqb k.entry.0 id.0).0 e))
     by more false e =
-        let n : times id (entry_of k ∷ map entry_of kids) ≡ 0 + times id (map entry_of kids) = count_cons (λ (y : EntryId). y.0 == id.0) (entry_of k) (map entry_of kids) ∙ ap (λ (b : Bool). cond b 1 0 + times id (map entry_of kids)) e in
+        let n : times id (entry_of k ∷ map entry_of kids) ≡ 0 + times id (map entry_of kids) = count_cons (λ (y : EntryId). y.0 == id.0) (entry_of k) (map entry_of kids)
+        ∙ ap (λ (b : Bool). cond b 1 0 + times id (map entry_of kids)) e in
         let j = more (omega (arith, n, le)) in (j.0, later j.1, j.2)
 
 last_has : {X : Type 0} (xs : List X) (x : X) → Has (xs ++ x ∷ []) x
@@ -82,7 +83,8 @@ module _ (h : History) (legal : IsLegal h) (hier : Hier) (over : IsElaboration h
   top_call = (own.1, subst (λ (calls : List CallView). Has calls own.1) (sym own.2) (last_has own.0 own.1), ap (λ (r : CallRow). r.entry) own.3)
 
   pub top_good : IsGood (unfolding_of h.entries (hier_view hier).own.entry)
-  top_good = subst (λ id. IsGood (unfolding_of h.entries id)) top_call.2 (let b : top_call.0.own.entry.0 < suc top_call.0.own.entry.0 = omega arith in good_below (suc top_call.0.own.entry.0) top_call.0 top_call.1 b)
+  top_good = subst (λ id. IsGood (unfolding_of h.entries id)) top_call.2
+      (let b : top_call.0.own.entry.0 < suc top_call.0.own.entry.0 = omega arith in good_below (suc top_call.0.own.entry.0) top_call.0 top_call.1 b)
 
   pub top_no_loop : ¬ HasCombLoop (unfolding_of h.entries (hier_view hier).own.entry)
   top_no_loop = subst (λ id. ¬ HasCombLoop (unfolding_of h.entries id)) top_call.2 (over.calls top_call.0 top_call.1).no_loop

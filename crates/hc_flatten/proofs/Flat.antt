@@ -49,20 +49,23 @@ spots_length path many = length-map (count_from 0 many) _ ∙ counted many 0
     counted (suc n) a = ap suc (counted n (suc a))
 
 spot_at : (path : List ℕ) (many k : ℕ) → k < many → slice_get (spots_of path many) k ≡ Some (record { path = path; node = k })
-spot_at path many k b = slice_get-map _ (count_from 0 many) k ∙ ap (option_map (λ n. record { path = path; node = n })) (counted_at many 0 k b) ∙ (let e : 0 + k ≡ k = omega arith in ap (λ n. Some (record { path = path; node = n })) e)
+spot_at path many k b = slice_get-map _ (count_from 0 many) k ∙ ap (option_map (λ n. record { path = path; node = n })) (counted_at many 0 k b)
+    ∙ (let e : 0 + k ≡ k = omega arith in ap (λ n. Some (record { path = path; node = n })) e)
 
 abbrev occurrence_or : Option Occurrence → Occurrence
 occurrence_or None = record { path = []; node = 0 }
 occurrence_or (Some s) = s
 
 -- what the flat graph has at the number of a node of an occurrence
-pub row_laid : (t : Tree) (path : List ℕ) (n : ℕ) (row : NodeRow) → IsThere t path → slice_get (graph_at t path).nodes n ≡ Some row → slice_get (flat_graph t).nodes ((place_at t path).nodes + n) ≡ Some (flat_row (place_at t path) (numbers_at t path) row)
+pub row_laid : (t : Tree) (path : List ℕ) (n : ℕ) (row : NodeRow) → IsThere t path → slice_get (graph_at t path).nodes n ≡ Some row
+    → slice_get (flat_graph t).nodes ((place_at t path).nodes + n) ≡ Some (flat_row (place_at t path) (numbers_at t path) row)
 row_laid t path n row r e =
     ap (λ l. slice_get l ((place_at t path).nodes + n)) (nodes_are_laid t [] top)
     ∙ block_at (λ path. own_nodes) nodes_in (λ path p g kids. length-map g.nodes _) (λ p. p.nodes) (λ p g kids i. refl) refl refl t path n _ r
     (slice_get-map (flat_row (place_at t path) (numbers_at t path)) (graph_at t path).nodes n ∙ ap (option_map (flat_row (place_at t path) (numbers_at t path))) e)
 
-pub memory_laid : (t : Tree) (path : List ℕ) (m : ℕ) (row : Memory) → IsThere t path → slice_get (graph_at t path).memories m ≡ Some row → slice_get (flat_graph t).memories ((place_at t path).memories + m) ≡ Some (memory_by (numbers_at t path) row)
+pub memory_laid : (t : Tree) (path : List ℕ) (m : ℕ) (row : Memory) → IsThere t path → slice_get (graph_at t path).memories m ≡ Some row
+    → slice_get (flat_graph t).memories ((place_at t path).memories + m) ≡ Some (memory_by (numbers_at t path) row)
 memory_laid t path m row r e =
     ap (λ l. slice_get l ((place_at t path).memories + m)) (memories_are_laid t [] top)
     ∙ block_at (λ path. own_memories) memories_in (λ path p g kids. length-map g.memories _) (λ p. p.memories) (λ p g kids i. refl) refl refl t path m _ r
@@ -72,7 +75,8 @@ pub nodes_length : (t : Tree) → length (flat_nodes top t) ≡ total nodes_in t
 nodes_length t = ap length (nodes_are_laid t [] top) ∙ laid_length (λ path. own_nodes) nodes_in (λ path p g kids. length-map g.nodes _) (λ p. p.nodes) (λ p g kids i. refl) refl refl t [] top
 
 pub memories_length : (t : Tree) → length (flat_memories top t) ≡ total memories_in t
-memories_length t = ap length (memories_are_laid t [] top) ∙ laid_length (λ path. own_memories) memories_in (λ path p g kids. length-map g.memories _) (λ p. p.memories) (λ p g kids i. refl) refl refl t [] top
+memories_length t = ap length (memories_are_laid t [] top) ∙ laid_length (λ path. own_memories) memories_in (λ path p g kids. length-map g.memories _) (λ p. p.memories)
+    (λ p g kids i. refl) refl refl t [] top
 
 -- a row that passes nothing on
 pub kept_row : (p : Place) (r : Renumbering) (row : NodeRow) (b : Bool) → passes_on p.inputs row.node ≡ b → flat_row p r row ≡ (if b then unread row else row_by r row)
@@ -85,21 +89,25 @@ module _ (t : Tree) (w : IsGood t) where
   -- the wire of an output keeps its own number
   pub wire_number : (path : List ℕ) (port m : ℕ) → IsThere t path → slice_get (graph_at t path).outputs port ≡ Some (record { 0 = m }) → (numbers_at t path).node m ≡ (place_at t path).nodes + m
   wire_number path port m r o =
-      let x : (row : NodeRow) × (driver : Option NodeId) × (slice_get (graph_at t path).nodes m ≡ Some row) × (row.node ≡ Wire driver) × (row.label ≡ None) = (law_at path r).wires (record { 0 = m }) (has_slice (graph_at t path).outputs port (record { 0 = m }) o) in
+      let x : (row : NodeRow) × (driver : Option NodeId) × (slice_get (graph_at t path).nodes m ≡ Some row) × (row.node ≡ Wire driver) × (row.label ≡ None) = (law_at path r).wires
+      (record { 0 = m }) (has_slice (graph_at t path).outputs port (record { 0 = m }) o) in
       flat_number t path m x.0 x.2 (ap (is_port_alias path) x.3)
 
-  pub output_node : (path : List ℕ) (n i port m : ℕ) → IsThere t (i ∷ path) → NodeIs t path n (InstOut (record { 0 = i }) port) → slice_get (graph_at t (i ∷ path)).outputs port ≡ Some (record { 0 = m }) → (numbers_at t path).node n ≡ (numbers_at t (i ∷ path)).node m
+  pub output_node : (path : List ℕ) (n i port m : ℕ) → IsThere t (i ∷ path) → NodeIs t path n (InstOut (record { 0 = i }) port)
+      → slice_get (graph_at t (i ∷ path)).outputs port ≡ Some (record { 0 = m }) → (numbers_at t path).node n ≡ (numbers_at t (i ∷ path)).node m
   output_node path n i port m r y o =
       node_number t path n y.0 y.1
       ∙ ap (number_of (place_at t path) (graph_at t path) (λ j. kid (tree_at t path) j) n) y.2
       ∙ ap (λ z. nodes_before (place_at t path) (graph_at t path) (λ j. kid (tree_at t path) j) i + id_or_zero z) o
       ∙ sym (wire_number (i ∷ path) port m r o)
 
-  pub input_node : (path : List ℕ) (n i port m : ℕ) → NodeIs t (i ∷ path) n (Input port) → connection (graph_at t path) i port ≡ Some (record { 0 = m }) → (numbers_at t (i ∷ path)).node n ≡ (numbers_at t path).node m
+  pub input_node : (path : List ℕ) (n i port m : ℕ) → NodeIs t (i ∷ path) n (Input port) → connection (graph_at t path) i port ≡ Some (record { 0 = m })
+      → (numbers_at t (i ∷ path)).node n ≡ (numbers_at t path).node m
   input_node path n i port m y o =
       node_number t (i ∷ path) n y.0 y.1
       ∙ ap (number_of (place_at t (i ∷ path)) (graph_at t (i ∷ path)) (λ j. kid (tree_at t (i ∷ path)) j) n) y.2
-      ∙ ap id_or_zero (slice_get-map (id_by (numbers_at t path)) (connections (slice_get (graph_at t path).instances i)) port ∙ ap (option_map (id_by (numbers_at t path))) (connected (slice_get (graph_at t path).instances i) o))
+      ∙ ap id_or_zero (slice_get-map (id_by (numbers_at t path)) (connections (slice_get (graph_at t path).instances i)) port ∙ ap (option_map (id_by (numbers_at t path)))
+      (connected (slice_get (graph_at t path).instances i) o))
     where
       connected : (it : Option Instance) → connection_of it port ≡ Some (record { 0 = m }) → slice_get (connections it) port ≡ Some (record { 0 = m })
       connected None e = cc
@@ -108,7 +116,8 @@ module _ (t : Tree) (w : IsGood t) where
   flat_node : (s : Occurrence) → IsFlatNode t s → IsThere t s.path × ((row : NodeRow) × (slice_get (graph_at t s.path).nodes s.node ≡ Some row) × (is_port_alias s.path row.node ≡ false))
   flat_node s f = (there t w s.path f.0.0, f.1)
 
-  pub row_of_flat : (path : List ℕ) (n : ℕ) (row : NodeRow) → IsThere t path → slice_get (graph_at t path).nodes n ≡ Some row → is_port_alias path row.node ≡ false → slice_get (flat_graph t).nodes ((numbers_at t path).node n) ≡ Some (row_by (numbers_at t path) row)
+  pub row_of_flat : (path : List ℕ) (n : ℕ) (row : NodeRow) → IsThere t path → slice_get (graph_at t path).nodes n ≡ Some row → is_port_alias path row.node ≡ false
+      → slice_get (flat_graph t).nodes ((numbers_at t path).node n) ≡ Some (row_by (numbers_at t path) row)
   row_of_flat path n row r e f =
       ap (slice_get (flat_graph t).nodes) (flat_number t path n row e f)
       ∙ row_laid t path n row r e
@@ -137,21 +146,25 @@ module _ (t : Tree) (w : IsGood t) where
     up = λ path n i port m r y o. input_node path n i port m y o;
     nodes = λ s r f. (let x : _ = flat_node s f in
         row_of_flat s.path s.node x.1.0 x.0 x.1.1 x.1.2
-        ∙ ap (λ y. Some (record { width = x.1.0.width; node = y; label = x.1.0.label })) (same_numbers_row ((at t).node s.path) ((at t).mem s.path) (numbers_at t s.path).inst (λ i. i) s.path x.1.0.node x.1.2)
+        ∙ ap (λ y. Some (record { width = x.1.0.width; node = y; label = x.1.0.label }))
+        (same_numbers_row ((at t).node s.path) ((at t).mem s.path) (numbers_at t s.path).inst (λ i. i) s.path x.1.0.node x.1.2)
         ∙ sym (ap (option_map (row_by (within (at t) s.path))) x.1.1));
     own_number = λ s r f. (let x : _ = flat_node s f in
         ap (λ k. occurrence_or (slice_get (laid node_spots [] top t) k)) (flat_number t s.path s.node x.1.0 x.1.1 x.1.2)
-        ∙ ap occurrence_or (block_at node_spots nodes_in (λ path p g kids. spots_length path (length g.nodes)) (λ p. p.nodes) (λ p g kids i. refl) refl refl t s.path s.node s x.0 (spot_at s.path (length (graph_at t s.path).nodes) s.node (slice_get_within _ s.node x.1.0 x.1.1))));
+        ∙ ap occurrence_or (block_at node_spots nodes_in (λ path p g kids. spots_length path (length g.nodes)) (λ p. p.nodes) (λ p g kids i. refl) refl refl t s.path s.node s x.0
+        (spot_at s.path (length (graph_at t s.path).nodes) s.node (slice_get_within _ s.node x.1.0 x.1.1))));
     memories = λ path m r. (let x : _ = memory_row path m r in
         ap (slice_get (flat_graph t).memories) (memory_number t path m x.2)
         ∙ memory_laid t path m x.0 x.3 x.1
         ∙ sym (ap (option_map (memory_by (within (at t) path))) x.1));
     own_memory = λ path m r. (let x : _ = memory_row path m r in
         ap (λ k. occurrence_or (slice_get (laid memory_spots [] top t) k)) (memory_number t path m x.2)
-        ∙ ap occurrence_or (block_at memory_spots memories_in (λ path p g kids. spots_length path (length g.memories)) (λ p. p.memories) (λ p g kids i. refl) refl refl t path m _ x.3 (spot_at path (length (graph_at t path).memories) m x.2)));
+        ∙ ap occurrence_or (block_at memory_spots memories_in (λ path p g kids. spots_length path (length g.memories)) (λ p. p.memories)
+        (λ p g kids i. refl) refl refl t path m _ x.3 (spot_at path (length (graph_at t path).memories) m x.2)));
   }
     where
-      memory_row : (path : List ℕ) (m : ℕ) → FlatReached t path (mem m) → (row : Memory) × (slice_get (graph_at t path).memories m ≡ Some row) × (m < length (graph_at t path).memories) × IsThere t path
+      memory_row : (path : List ℕ) (m : ℕ) → FlatReached t path (mem m)
+          → (row : Memory) × (slice_get (graph_at t path).memories m ≡ Some row) × (m < length (graph_at t path).memories) × IsThere t path
       memory_row path m r =
           let f : _ = flat_reached t r in
           let a : IsThere t path = there t w path f.0 in

@@ -39,7 +39,8 @@ abbrev of_parts : Ports → List NodeId → List NodeRow → List Memory → Lis
 of_parts ports outputs nodes memories instances = record { ports = ports; outputs = outputs; nodes = nodes; memories = memories; instances = instances }
 
 same_parts : (t : Tree) (ports : Ports) (outputs : List NodeId) (nodes : List NodeRow) (memories : List Memory) (instances : List Instance)
-    → ports ≡ (graph t).ports → outputs ≡ (graph t).outputs → nodes ≡ flat_nodes top t → memories ≡ flat_memories top t → instances ≡ [] → of_parts ports outputs nodes memories instances ≡ flat_graph t
+    → ports ≡ (graph t).ports → outputs ≡ (graph t).outputs → nodes ≡ flat_nodes top t → memories ≡ flat_memories top t → instances ≡ []
+    → of_parts ports outputs nodes memories instances ≡ flat_graph t
 same_parts t ports outputs nodes memories instances a b c d e =
     ap (λ x. of_parts x outputs nodes memories instances) a
     ∙ ap (λ x. of_parts (graph t).ports x nodes memories instances) b
@@ -60,11 +61,13 @@ module _ (h : History) (legal : IsLegal h) (hier : Hier) (over : IsElaboration h
       = same_parts (unfolding_of h.entries entry) ports outputs nodes memories instances (a ∙ sym (ap (λ (x : Graph). x.ports) g)) (b ∙ sym (ap (λ (x : Graph). x.outputs) g)) c d e in
       subst (λ i. IsFlattened (unfolding_of h.entries i) (of_parts ports outputs nodes memories instances)) (sym q)
       (subst (IsFlattened (unfolding_of h.entries entry)) (sym s)
-      (flattened (unfolding_of h.entries entry) (subst (λ i. IsGood (unfolding_of h.entries i)) q (top_good h legal hier over own kids)) (subst (λ i. ¬ HasCombLoop (unfolding_of h.entries i)) q (top_no_loop h legal hier over own kids))
+      (flattened (unfolding_of h.entries entry) (subst (λ i. IsGood (unfolding_of h.entries i)) q (top_good h legal hier over own kids))
+      (subst (λ i. ¬ HasCombLoop (unfolding_of h.entries i)) q (top_no_loop h legal hier over own kids))
       (subst (λ l. length l ≤ 4294967296) c few_nodes) (subst (λ l. length l ≤ 4294967296) d few_memories)))
 
 -- what has a size of 32 bits fits
-pub few_laid : (entries : List FormView) (sizes : List (Option Size)) (entry : EntryId) (size : Size) (nodes : List NodeRow) (memories : List Memory) → AreSizes entries sizes → slice_get sizes entry.0 ≡ Some (Some size) → size.nodes < 4294967296 → size.memories < 4294967296
+pub few_laid : (entries : List FormView) (sizes : List (Option Size)) (entry : EntryId) (size : Size) (nodes : List NodeRow) (memories : List Memory)
+    → AreSizes entries sizes → slice_get sizes entry.0 ≡ Some (Some size) → size.nodes < 4294967296 → size.memories < 4294967296
     → nodes ≡ flat_nodes top (unfolding_of entries entry) → memories ≡ flat_memories top (unfolding_of entries entry) → (length nodes ≤ 4294967296) × (length memories ≤ 4294967296)
 few_laid entries sizes entry size nodes memories are at a b p q =
     let s : HasSize (unfolding_of entries entry) size = are entry.0 size at in

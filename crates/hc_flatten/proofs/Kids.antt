@@ -26,7 +26,8 @@ module _ (h : History) (legal : IsLegal h) where
   kid_graph form i id kid q r = ap graph (kid_is form i id q ∙ unfolds h legal id kid r)
 
   pub output_is : (form : FormView) (p : Place) (i port : ℕ) (id : EntryId) (kid : FormView) (start k o : ℕ) → slice_get form.kids i ≡ Some id → slice_get h.entries id.0 ≡ Some kid
-      → start ≡ nodes_before p form.circuit (kid_trees h.entries form) i → o ≡ id_or_zero (slice_get kid.circuit.outputs port) → k ≡ start + o → k ≡ output_number p form.circuit (kid_trees h.entries form) i port
+      → start ≡ nodes_before p form.circuit (kid_trees h.entries form) i → o ≡ id_or_zero (slice_get kid.circuit.outputs port) → k ≡ start + o → k ≡ output_number p form.circuit
+      (kid_trees h.entries form) i port
   output_is form p i port id kid start k o q r b c e =
       let d : o ≡ id_or_zero (slice_get (graph (kid_trees h.entries form i)).outputs port) = c ∙ ap (λ (g : Graph). id_or_zero (slice_get g.outputs port)) (sym (kid_graph form i id kid q r)) in
       e ∙ ap (λ n. n + o) b ∙ ap (λ n. nodes_before p form.circuit (kid_trees h.entries form) i + n) d

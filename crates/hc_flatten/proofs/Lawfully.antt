@@ -68,13 +68,16 @@ module _ (t : Tree) (w : IsGood t) where
   abbrev new : List ℕ → Renumbering
   new path = numbers_at t path
 
-  kept_width : (path : List ℕ) (n v : ℕ) (row : NodeRow) → IsThere t path → slice_get (graph_at t path).nodes n ≡ Some row → is_port_alias path row.node ≡ false → row.width ≡ v → HasWidth flat (id_by (new path) (record { 0 = n })) v
+  kept_width : (path : List ℕ) (n v : ℕ) (row : NodeRow) → IsThere t path → slice_get (graph_at t path).nodes n ≡ Some row → is_port_alias path row.node ≡ false
+      → row.width ≡ v → HasWidth flat (id_by (new path) (record { 0 = n })) v
   kept_width path n v row r e a q = (row_by (new path) row, row_of_flat t w path n row r e a, q)
 
-  output_width : (path : List ℕ) (n v : ℕ) (row : NodeRow) (i : InstId) (port : ℕ) → IsThere t path → slice_get (graph_at t path).nodes n ≡ Some row → row.node ≡ InstOut i port → row.width ≡ v → HasWidth flat (id_by (new path) (record { 0 = n })) v
+  output_width : (path : List ℕ) (n v : ℕ) (row : NodeRow) (i : InstId) (port : ℕ) → IsThere t path → slice_get (graph_at t path).nodes n ≡ Some row
+      → row.node ≡ InstOut i port → row.width ≡ v → HasWidth flat (id_by (new path) (record { 0 = n })) v
   output_width path n v row i port r e q u =
       let o : _ = inner_output t w path n row i port r e q in
-      let x : (inner : NodeRow) × (driver : Option NodeId) × (slice_get (graph_at t (i.0 ∷ path)).nodes o.1.0.0 ≡ Some inner) × (inner.node ≡ Wire driver) × (inner.label ≡ None) = (law t w (i.0 ∷ path) o.0).wires o.1.0 (has_slice (graph_at t (i.0 ∷ path)).outputs port o.1.0 o.1.1) in
+      let x : (inner : NodeRow) × (driver : Option NodeId) × (slice_get (graph_at t (i.0 ∷ path)).nodes o.1.0.0 ≡ Some inner) × (inner.node ≡ Wire driver)
+      × (inner.label ≡ None) = (law t w (i.0 ∷ path) o.0).wires o.1.0 (has_slice (graph_at t (i.0 ∷ path)).outputs port o.1.0 o.1.1) in
       let same : x.0.width ≡ row.width = ap (λ (y : NodeRow). y.width) (some_once (sym x.2 ∙ o.1.2.1)) ∙ o.1.2.2 in
       subst (λ k. HasWidth flat (record { 0 = k }) v) (sym (output_node t w path n i.0 port o.1.0.0 o.0 (row, e, q) o.1.1))
       (kept_width (i.0 ∷ path) o.1.0.0 v x.0 o.0 x.2 (ap (is_port_alias (i.0 ∷ path)) x.3) (same ∙ u))
@@ -99,7 +102,8 @@ module _ (t : Tree) (w : IsGood t) where
         | inr (inr c) ↦ input_width j path id.0 v h.0 c.2 r h.1 c.4 h.2 (width_at path r.0)
       ]
 
-  memory_at : (path : List ℕ) → IsThere t path → (m : ℕ) (memory : Memory) → slice_get (graph_at t path).memories m ≡ Some memory → slice_get flat.memories ((new path).mem m) ≡ Some (memory_by (new path) memory)
+  memory_at : (path : List ℕ) → IsThere t path → (m : ℕ) (memory : Memory) → slice_get (graph_at t path).memories m ≡ Some memory
+      → slice_get flat.memories ((new path).mem m) ≡ Some (memory_by (new path) memory)
   memory_at path r m memory e = ap (slice_get flat.memories) (memory_number t path m (slice_get_within _ m memory e)) ∙ memory_laid t path m memory r e
 
   -- the row behind a row of the flat graph
@@ -115,8 +119,10 @@ module _ (t : Tree) (w : IsGood t) where
   row_from : (k : ℕ) (row : NodeRow) → slice_get flat.nodes k ≡ Some row → IsRow k row
   row_from k row e =
       let f : IsFrom (λ path. own_nodes) nodes_in (λ path p g kids. length-map g.nodes _) (λ p. p.nodes) (λ p g kids i. refl) refl refl t k row
-      = laid_from (λ path. own_nodes) nodes_in (λ path p g kids. length-map g.nodes _) (λ p. p.nodes) (λ p g kids i. refl) refl refl t k row (sym (ap (λ l. slice_get l k) (nodes_are_laid t [] top)) ∙ e) in
-      let x : _ = some_of (flat_row (place_at t f.path) (new f.path)) (slice_get (graph_at t f.path).nodes f.place) row (sym (slice_get-map (flat_row (place_at t f.path) (new f.path)) (graph_at t f.path).nodes f.place) ∙ f.found) in
+      = laid_from (λ path. own_nodes) nodes_in (λ path p g kids. length-map g.nodes _) (λ p. p.nodes) (λ p g kids i. refl) refl refl t k row
+      (sym (ap (λ l. slice_get l k) (nodes_are_laid t [] top)) ∙ e) in
+      let x : _ = some_of (flat_row (place_at t f.path) (new f.path)) (slice_get (graph_at t f.path).nodes f.place) row
+      (sym (slice_get-map (flat_row (place_at t f.path) (new f.path)) (graph_at t f.path).nodes f.place) ∙ f.found) in
       record { path = f.path; place = f.place; there = f.there; old = x.0; found = x.1; is = x.2; number = f.number }
 
   -- a row that is read
@@ -137,7 +143,8 @@ module _ (t : Tree) (w : IsGood t) where
       x = row_from k row e
 
       by : (b : Bool) → passes_on (place_at t x.path).inputs x.old.node ≡ b → IsRead k row ⊎ ((row.node ≡ Wire None) × IsWidth row.width)
-      by true q = inr (let z : unread x.old ≡ row = sym (kept_row (place_at t x.path) (new x.path) x.old true q) ∙ x.is in (sym (ap (λ (y : NodeRow). y.node) z), subst IsWidth (ap (λ (y : NodeRow). y.width) z) ((law t w x.path x.there).nodes x.place x.old x.found).0))
+      by true q = inr (let z : unread x.old ≡ row = sym (kept_row (place_at t x.path) (new x.path) x.old true q) ∙ x.is
+          in (sym (ap (λ (y : NodeRow). y.node) z), subst IsWidth (ap (λ (y : NodeRow). y.width) z) ((law t w x.path x.there).nodes x.place x.old x.found).0))
       by false q = inl (record {
         path = x.path;
         place = x.place;
@@ -153,7 +160,8 @@ module _ (t : Tree) (w : IsGood t) where
   read_lawful k row x =
       subst (λ (y : NodeRow). IsWidth y.width × IsLawfulNode flat y.width y.node) x.is (
         ((law t w x.path x.there).nodes x.place x.old x.found).0,
-        node_to (new x.path) (graph_at t x.path) flat (width_at x.path x.there) (memory_at x.path x.there) x.old.width x.old.node (ports x.path x.kept) (λ i port q. (let z : true ≡ false = sym (ap (is_port_alias x.path) q) ∙ x.kept in cc)) ((law t w x.path x.there).nodes x.place x.old x.found).1,
+        node_to (new x.path) (graph_at t x.path) flat (width_at x.path x.there) (memory_at x.path x.there) x.old.width x.old.node (ports x.path x.kept)
+            (λ i port q. (let z : true ≡ false = sym (ap (is_port_alias x.path) q) ∙ x.kept in cc)) ((law t w x.path x.there).nodes x.place x.old x.found).1,
       )
     where
       ports : (path : List ℕ) → is_port_alias path x.old.node ≡ false → (port : ℕ) → x.old.node ≡ Input port → (graph_at t path).ports ≡ flat.ports
@@ -170,18 +178,22 @@ module _ (t : Tree) (w : IsGood t) where
   memory_rows m h =
       let k : (k : ℕ) × (slice_get flat.memories k ≡ Some m) = has_index h in
       let f : IsFrom (λ path. own_memories) memories_in (λ path p g kids. length-map g.memories _) (λ p. p.memories) (λ p g kids i. refl) refl refl t k.0 m
-      = laid_from (λ path. own_memories) memories_in (λ path p g kids. length-map g.memories _) (λ p. p.memories) (λ p g kids i. refl) refl refl t k.0 m (sym (ap (λ l. slice_get l k.0) (memories_are_laid t [] top)) ∙ k.1) in
+      = laid_from (λ path. own_memories) memories_in (λ path p g kids. length-map g.memories _) (λ p. p.memories) (λ p g kids i. refl) refl refl t k.0 m
+      (sym (ap (λ l. slice_get l k.0) (memories_are_laid t [] top)) ∙ k.1) in
       let x : _ = some_of (memory_by (new f.path)) (slice_get (graph_at t f.path).memories f.place) m (sym (slice_get-map (memory_by (new f.path)) (graph_at t f.path).memories f.place) ∙ f.found) in
-      subst (IsLawfulMemory flat) x.2 (memory_to (new f.path) (graph_at t f.path) flat (width_at f.path f.there) (memory_at f.path f.there) x.0 ((law t w f.path f.there).memories x.0 (has_slice (graph_at t f.path).memories f.place x.0 x.1)))
+      subst (IsLawfulMemory flat) x.2 (memory_to (new f.path) (graph_at t f.path) flat (width_at f.path f.there) (memory_at f.path f.there) x.0
+      ((law t w f.path f.there).memories x.0 (has_slice (graph_at t f.path).memories f.place x.0 x.1)))
 
   -- an input of the flat graph is one of the top
-  input_row : (k : ℕ) (row : NodeRow) (port : ℕ) → slice_get flat.nodes k ≡ Some row → row.node ≡ Input port → (old : NodeRow) × (slice_get (graph t).nodes k ≡ Some old) × (old.node ≡ Input port) × (old.label ≡ row.label)
+  input_row : (k : ℕ) (row : NodeRow) (port : ℕ) → slice_get flat.nodes k ≡ Some row → row.node ≡ Input port
+      → (old : NodeRow) × (slice_get (graph t).nodes k ≡ Some old) × (old.node ≡ Input port) × (old.label ≡ row.label)
   input_row k row port e q = elim (read_or_not k row e) [
     | inl x ↦ by x.path x.place x.old x.found x.kept x.is x.number
     | inr x ↦ (let z : Wire None ≡ Input port = sym x.0 ∙ q in cc)
   ]
     where
-      by : (path : List ℕ) (n : ℕ) (old : NodeRow) → slice_get (graph_at t path).nodes n ≡ Some old → is_port_alias path old.node ≡ false → row_by (new path) old ≡ row → k ≡ (place_at t path).nodes + n → (old : NodeRow) × (slice_get (graph t).nodes k ≡ Some old) × (old.node ≡ Input port) × (old.label ≡ row.label)
+      by : (path : List ℕ) (n : ℕ) (old : NodeRow) → slice_get (graph_at t path).nodes n ≡ Some old → is_port_alias path old.node ≡ false → row_by (new path) old ≡ row
+          → k ≡ (place_at t path).nodes + n → (old : NodeRow) × (slice_get (graph t).nodes k ≡ Some old) × (old.node ≡ Input port) × (old.label ≡ row.label)
       by [] n old f a is m =
           let was : old.node ≡ Input port = was_input (new []) old.node port (ap (λ (y : NodeRow). y.node) is ∙ q) in
           let s : n ≡ k = (let z : k ≡ 0 + n = m in omega (arith, z)) in

@@ -47,19 +47,26 @@ kids_are entries form p starts r kids s q a = record {
         k.place
             ∙ ap (λ n. record { nodes = n; memories = t.0.memories; inputs = Some (map (id_by r) (connections (slice_get form.circuit.instances i))) }) w.0
             ∙ ap (λ n. record { nodes = nodes_before p form.circuit (kid_trees entries form) i; memories = n; inputs = Some (map (id_by r) (connections (slice_get form.circuit.instances i))) }) w.1
-            ∙ ap (λ z. record { nodes = nodes_before p form.circuit (kid_trees entries form) i; memories = memories_before p form.circuit (kid_trees entries form) i; inputs = Some (map (id_by z) (connections (slice_get form.circuit.instances i))) }) q,
+            ∙ ap (λ z. record {
+              nodes = nodes_before p form.circuit (kid_trees entries form) i;
+              memories = memories_before p form.circuit (kid_trees entries form) i;
+              inputs = Some
+                  (map (id_by z) (connections (slice_get form.circuit.instances i)));
+            }) q,
       ));
 }
 
 module _ (h : History) (legal : IsLegal h) (entry : EntryId) (form : FormView) (p : Place) (kids : List Kid) (at : slice_get h.entries entry.0 ≡ Some form) (are : AreKids h.entries form p kids) where
-  kid_laid_at : {Y : Type 0} (flat : Place → Tree → Y) (of : Option Kid → Y) → ((kid : Kid) → of (Some kid) ≡ flat kid.place (unfolding_of h.entries kid.entry)) → (i : ℕ) → i < length form.circuit.instances
+  kid_laid_at : {Y : Type 0} (flat : Place → Tree → Y) (of : Option Kid → Y) → ((kid : Kid) → of (Some kid) ≡ flat kid.place (unfolding_of h.entries kid.entry)) → (i : ℕ)
+      → i < length form.circuit.instances
       → of (slice_get kids i) ≡ flat (kid_place p form.circuit (kid_trees h.entries form) i) (kid_trees h.entries form i)
   kid_laid_at flat of is i b =
       let k : (kid : Kid) × (slice_get kids i ≡ Some kid) = some_at kids i (subst (λ n. i < n) (sym are.many) b) in
       let e : (slice_get form.kids i ≡ Some k.0.entry) × (k.0.place ≡ kid_place p form.circuit (kid_trees h.entries form) i) = are.each i k.0 k.1 in
       ap of k.1 ∙ is k.0 ∙ ap₂ flat e.1 (sym (kid_is h legal form i k.0.entry e.0))
 
-  pub nodes_laid : (old mid end : List NodeRow) (n : ℕ) → mid ≡ old ++ own_nodes p form.circuit (kid_trees h.entries form) → n ≡ length kids → end ≡ mid ++ joined (λ i. kid_nodes h.entries (slice_get kids i)) n → end ≡ old ++ flat_nodes p (unfolding_of h.entries entry)
+  pub nodes_laid : (old mid end : List NodeRow) (n : ℕ) → mid ≡ old ++ own_nodes p form.circuit (kid_trees h.entries form) → n ≡ length kids
+      → end ≡ mid ++ joined (λ i. kid_nodes h.entries (slice_get kids i)) n → end ≡ old ++ flat_nodes p (unfolding_of h.entries entry)
   nodes_laid old mid end n a b c =
       c ∙ ap (λ l. l ++ joined (λ i. kid_nodes h.entries (slice_get kids i)) n) a
       ∙ ap (λ k. old ++ own_nodes p form.circuit (kid_trees h.entries form) ++ joined (λ i. kid_nodes h.entries (slice_get kids i)) k) (b ∙ are.many)
@@ -69,13 +76,15 @@ module _ (h : History) (legal : IsLegal h) (entry : EntryId) (form : FormView) (
       (kid_laid_at flat_nodes (kid_nodes h.entries) (λ _. refl)))
       ∙ ap (λ t. old ++ flat_nodes p t) (sym (unfolds h legal entry form at))
 
-  pub memories_laid : (old mid end : List Memory) (n : ℕ) → mid ≡ old ++ own_memories p form.circuit (kid_trees h.entries form) → n ≡ length kids → end ≡ mid ++ joined (λ i. kid_memories h.entries (slice_get kids i)) n → end ≡ old ++ flat_memories p (unfolding_of h.entries entry)
+  pub memories_laid : (old mid end : List Memory) (n : ℕ) → mid ≡ old ++ own_memories p form.circuit (kid_trees h.entries form) → n ≡ length kids
+      → end ≡ mid ++ joined (λ i. kid_memories h.entries (slice_get kids i)) n → end ≡ old ++ flat_memories p (unfolding_of h.entries entry)
   memories_laid old mid end n a b c =
       c ∙ ap (λ l. l ++ joined (λ i. kid_memories h.entries (slice_get kids i)) n) a
       ∙ ap (λ k. old ++ own_memories p form.circuit (kid_trees h.entries form) ++ joined (λ i. kid_memories h.entries (slice_get kids i)) k) (b ∙ are.many)
       ∙ append_assoc old (own_memories p form.circuit (kid_trees h.entries form)) _
       ∙ ap (λ l. old ++ (own_memories p form.circuit (kid_trees h.entries form) ++ l))
-      (joined_same (λ i. kid_memories h.entries (slice_get kids i)) (λ i. flat_memories (kid_place p form.circuit (kid_trees h.entries form) i) (kid_trees h.entries form i)) (length form.circuit.instances)
+      (joined_same (λ i. kid_memories h.entries (slice_get kids i)) (λ i. flat_memories (kid_place p form.circuit (kid_trees h.entries form) i) (kid_trees h.entries form i))
+      (length form.circuit.instances)
       (kid_laid_at flat_memories (kid_memories h.entries) (λ _. refl)))
       ∙ ap (λ t. old ++ flat_memories p t) (sym (unfolds h legal entry form at))
 

@@ -19,12 +19,15 @@ use Rattle.hc_flatten.proofs.Blocks.{place_at}
 abbrev pub numbers_at : Tree → List ℕ → Renumbering
 numbers_at t path = numbering (place_at t path) (graph_at t path) (λ j. kid (tree_at t path) j)
 
-numbers_of_row : (p : Place) (g : Graph) (kids : ℕ → Tree) (rows : List NodeRow) (a k : ℕ) (row : NodeRow) → slice_get rows k ≡ Some row → slice_get (numbers_from p g kids a rows) k ≡ Some (number_of p g kids (a + k) row.node)
+numbers_of_row : (p : Place) (g : Graph) (kids : ℕ → Tree) (rows : List NodeRow) (a k : ℕ) (row : NodeRow) → slice_get rows k ≡ Some row
+    → slice_get (numbers_from p g kids a rows) k ≡ Some (number_of p g kids (a + k) row.node)
 numbers_of_row p g kids [] a k row e = cc
-numbers_of_row p g kids (x ∷ rows) a zero row e = (let q : a ≡ a + zero = omega arith in ap (λ n. Some (number_of p g kids n x.node)) q) ∙ ap (λ (y : NodeRow). Some (number_of p g kids (a + zero) y.node)) (some_once e)
+numbers_of_row p g kids (x ∷ rows) a zero row e = (let q : a ≡ a + zero = omega arith in ap (λ n. Some (number_of p g kids n x.node)) q)
+    ∙ ap (λ (y : NodeRow). Some (number_of p g kids (a + zero) y.node)) (some_once e)
 numbers_of_row p g kids (x ∷ rows) a (suc k) row e = numbers_of_row p g kids rows (suc a) k row e ∙ (let q : suc a + k ≡ a + suc k = omega arith in ap (λ n. Some (number_of p g kids n row.node)) q)
 
-pub node_number : (t : Tree) (path : List ℕ) (n : ℕ) (row : NodeRow) → slice_get (graph_at t path).nodes n ≡ Some row → (numbers_at t path).node n ≡ number_of (place_at t path) (graph_at t path) (λ j. kid (tree_at t path) j) n row.node
+pub node_number : (t : Tree) (path : List ℕ) (n : ℕ) (row : NodeRow) → slice_get (graph_at t path).nodes n ≡ Some row
+    → (numbers_at t path).node n ≡ number_of (place_at t path) (graph_at t path) (λ j. kid (tree_at t path) j) n row.node
 node_number t path n row e =
     get_or_from_slice_get _ n _ 0 (numbers_of_row (place_at t path) (graph_at t path) (λ j. kid (tree_at t path) j) (graph_at t path).nodes 0 n row e)
     ∙ (let q : 0 + n ≡ n = omega arith in ap (λ k. number_of (place_at t path) (graph_at t path) (λ j. kid (tree_at t path) j) k row.node) q)
@@ -86,11 +89,14 @@ pub passed_same : (t : Tree) (path : List ℕ) (x : Node) → passes_on (place_a
 passed_same t path x = sym (alias_same t path x)
 
 -- a flat node keeps its own number
-pub flat_number : (t : Tree) (path : List ℕ) (n : ℕ) (row : NodeRow) → slice_get (graph_at t path).nodes n ≡ Some row → is_port_alias path row.node ≡ false → (numbers_at t path).node n ≡ (place_at t path).nodes + n
-flat_number t path n row e f = node_number t path n row e ∙ own_number (place_at t path) (graph_at t path) (λ j. kid (tree_at t path) j) n (place_at t path).inputs refl row.node (passed_same t path row.node ∙ f)
+pub flat_number : (t : Tree) (path : List ℕ) (n : ℕ) (row : NodeRow) → slice_get (graph_at t path).nodes n ≡ Some row → is_port_alias path row.node ≡ false
+    → (numbers_at t path).node n ≡ (place_at t path).nodes + n
+flat_number t path n row e f = node_number t path n row e ∙ own_number (place_at t path) (graph_at t path) (λ j. kid (tree_at t path) j) n (place_at t path).inputs refl row.node
+    (passed_same t path row.node ∙ f)
 
 -- the numbers of instances do not matter to a flat row
-pub same_numbers_row : (f g a b : ℕ → ℕ) (path : List ℕ) (x : Node) → is_port_alias path x ≡ false → node_by (record { node = f; mem = g; inst = a }) x ≡ node_by (record { node = f; mem = g; inst = b }) x
+pub same_numbers_row : (f g a b : ℕ → ℕ) (path : List ℕ) (x : Node) → is_port_alias path x ≡ false
+    → node_by (record { node = f; mem = g; inst = a }) x ≡ node_by (record { node = f; mem = g; inst = b }) x
 same_numbers_row f g a b path (Input port) e = refl
 same_numbers_row f g a b path (Wire w1) e = refl
 same_numbers_row f g a b path (Const w1) e = refl

@@ -15,7 +15,8 @@ use Rattle.hc_signal.specs.Renumber.{Renumbering, id_by, node_by}
 use Rattle.hc_walk.proofs.Members.{has_cases}
 
 -- a node that passes nothing on, an output of an instance, or an input below the top
-pub alias_kind : (path : List ℕ) (x : Node) → (is_port_alias path x ≡ false) ⊎ (((i : InstId) × (port : ℕ) × (x ≡ InstOut i port)) ⊎ ((j : ℕ) × (rest : List ℕ) × (port : ℕ) × (path ≡ j ∷ rest) × (x ≡ Input port)))
+pub alias_kind : (path : List ℕ) (x : Node)
+    → (is_port_alias path x ≡ false) ⊎ (((i : InstId) × (port : ℕ) × (x ≡ InstOut i port)) ⊎ ((j : ℕ) × (rest : List ℕ) × (port : ℕ) × (path ≡ j ∷ rest) × (x ≡ Input port)))
 alias_kind [] (Input w1) = inl refl
 alias_kind (j ∷ path) (Input w1) = inr (inr (j, path, w1, refl, refl))
 alias_kind path (Wire w1) = inl refl

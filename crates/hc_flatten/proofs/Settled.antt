@@ -32,7 +32,8 @@ widths_at g (id ∷ ids) (v ∷ ws) h zero w e = (id, refl, subst (HasWidth g id
 widths_at g (id ∷ ids) (v ∷ ws) h (suc k) w e = widths_at g ids ws h.1 k w e
 
 -- the node at a port
-pub port_node : (g : Graph) (ids : List NodeId) (ports : List Port) → HaveWidthsOf g ids ports → (k : ℕ) (p : Port) → slice_get ports k ≡ Some p → (id : NodeId) × (slice_get ids k ≡ Some id) × HasWidth g id p.width
+pub port_node : (g : Graph) (ids : List NodeId) (ports : List Port) → HaveWidthsOf g ids ports → (k : ℕ) (p : Port) → slice_get ports k ≡ Some p
+    → (id : NodeId) × (slice_get ids k ≡ Some id) × HasWidth g id p.width
 port_node g ids ports h k p e = widths_at g ids (map (λ (q : Port). q.width) ports) h k p.width (slice_get-map (λ (q : Port). q.width) ports k ∙ ap (option_map (λ (q : Port). q.width)) e)
 
 module _ (t : Tree) (w : IsGood t) where
@@ -46,7 +47,8 @@ module _ (t : Tree) (w : IsGood t) where
       let u : IsLawfulNode (graph_at t path) row.width (InstOut i port) = subst (IsLawfulNode (graph_at t path) row.width) q ((law path r).nodes n row e).1 in
       let k : _ = good_kid (tree_at t path) (good_at t w path r) i.0 u.0 u.2 in
       let l : IsLawful (graph_at t (i.0 ∷ path)) = lawful_of (kid (tree_at t path) i.0) k.1 in
-      let p : _ = port_node (graph_at t (i.0 ∷ path)) (graph_at t (i.0 ∷ path)).outputs (graph_at t (i.0 ∷ path)).ports.outputs l.outputs port u.1 (subst (λ (ports : Ports). slice_get ports.outputs port ≡ Some u.1) (sym k.0) u.3) in
+      let p : _ = port_node (graph_at t (i.0 ∷ path)) (graph_at t (i.0 ∷ path)).outputs (graph_at t (i.0 ∷ path)).ports.outputs l.outputs port u.1
+      (subst (λ (ports : Ports). slice_get ports.outputs port ≡ Some u.1) (sym k.0) u.3) in
       ((r, slice_get_within (graph_at t path).instances i.0 u.0 u.2), (p.0, p.1, subst (HasWidth (graph_at t (i.0 ∷ path)) p.0) u.4 p.2))
 
   -- the connection behind an input of an instance
@@ -71,11 +73,13 @@ module _ (t : Tree) (w : IsGood t) where
     stays : (path : List ℕ) (n : ℕ) (row : NodeRow) → FlatReached t path (node n) → slice_get (graph_at t path).nodes n ≡ Some row → is_port_alias path row.node ≡ false → IsSettled path n
     stays path n row r e a = record { spot = record { path = path; node = n }; reached = r; flat = (flat_reached t r, (row, e, a)); number = refl; passed = here }
 
-    comes_out : (path : List ℕ) (n : ℕ) (row : NodeRow) (i : InstId) (port : ℕ) → FlatReached t path (node n) → slice_get (graph_at t path).nodes n ≡ Some row → row.node ≡ InstOut i port → IsSettled path n
+    comes_out : (path : List ℕ) (n : ℕ) (row : NodeRow) (i : InstId) (port : ℕ) → FlatReached t path (node n) → slice_get (graph_at t path).nodes n ≡ Some row
+        → row.node ≡ InstOut i port → IsSettled path n
     comes_out path n row i port r e q =
         let a : IsThere t path = there t w path (flat_reached t r).0 in
         let o : _ = inner_output path n row i port a e q in
-        let x : (inner : NodeRow) × (driver : Option NodeId) × (slice_get (graph_at t (i.0 ∷ path)).nodes o.1.0.0 ≡ Some inner) × (inner.node ≡ Wire driver) × (inner.label ≡ None) = (law (i.0 ∷ path) o.0).wires o.1.0 (has_slice (graph_at t (i.0 ∷ path)).outputs port o.1.0 o.1.1) in
+        let x : (inner : NodeRow) × (driver : Option NodeId) × (slice_get (graph_at t (i.0 ∷ path)).nodes o.1.0.0 ≡ Some inner) × (inner.node ≡ Wire driver)
+        × (inner.label ≡ None) = (law (i.0 ∷ path) o.0).wires o.1.0 (has_slice (graph_at t (i.0 ∷ path)).outputs port o.1.0 o.1.1) in
         let d : FlatReached t (i.0 ∷ path) (node o.1.0.0) = flat.down port r (row, e, q) o.1.1 in
         record {
           spot = record { path = i.0 ∷ path; node = o.1.0.0 };
@@ -85,7 +89,8 @@ module _ (t : Tree) (w : IsGood t) where
           passed = on (step.down port (row, e, q) o.1.1) here;
         }
 
-    goes_up : (j : ℕ) (path : List ℕ) (n : ℕ) (row : NodeRow) (port : ℕ) → FlatReached t (j ∷ path) (node n) → slice_get (graph_at t (j ∷ path)).nodes n ≡ Some row → row.node ≡ Input port → ((m : ℕ) → FlatReached t path (node m) → IsSettled path m) → IsSettled (j ∷ path) n
+    goes_up : (j : ℕ) (path : List ℕ) (n : ℕ) (row : NodeRow) (port : ℕ) → FlatReached t (j ∷ path) (node n) → slice_get (graph_at t (j ∷ path)).nodes n ≡ Some row
+        → row.node ≡ Input port → ((m : ℕ) → FlatReached t path (node m) → IsSettled path m) → IsSettled (j ∷ path) n
     goes_up j path n row port r e q rec =
         let a : IsThere t (j ∷ path) = there t w (j ∷ path) (flat_reached t r).0 in
         let o : _ = outer_input j path n row port a e q in

@@ -22,20 +22,23 @@ reaches_more entries sizes form a b i id start end are q r f =
     let m : f.size.memories ≡ total memories_in (kid_trees entries form i) = s.memories ∙ ap (total memories_in) (sym t) in
     record {
       nodes = (let x : end.nodes ≡ start.nodes + f.size.nodes = f.nodes in let y : start.nodes ≡ a + sum_to (λ j. total nodes_in (kid_trees entries form j)) i = r.nodes in omega (arith, x, y, n));
-      memories = (let x : end.memories ≡ start.memories + f.size.memories = f.memories in let y : start.memories ≡ b + sum_to (λ j. total memories_in (kid_trees entries form j)) i = r.memories in omega (arith, x, y, m));
+      memories = (let x : end.memories ≡ start.memories + f.size.memories = f.memories in let y : start.memories ≡ b + sum_to
+          (λ j. total memories_in (kid_trees entries form j)) i = r.memories in omega (arith, x, y, m));
     }
 
 pub reaches_none : (a b : ℕ) (kids : ℕ → Tree) (s : Size) → s.nodes ≡ a → s.memories ≡ b → Reaches a b kids 0 s
 reaches_none a b kids s n m = record { nodes = omega (arith, n); memories = omega (arith, m) }
 
 -- the size of a form from the sum over all its instances
-pub size_of_form : (entries : List FormView) (form : FormView) (s : Size) → Reaches (length form.circuit.nodes) (length form.circuit.memories) (kid_trees entries form) (length form.circuit.instances) s → HasSize (tree_of entries form) s
+pub size_of_form : (entries : List FormView) (form : FormView) (s : Size)
+    → Reaches (length form.circuit.nodes) (length form.circuit.memories) (kid_trees entries form) (length form.circuit.instances) s → HasSize (tree_of entries form) s
 size_of_form entries form s r = record { nodes = r.nodes; memories = r.memories }
 
 -- the starts of the first instances
 pub record AreFirstStarts (p : Place) (form : FormView) (entries : List FormView) (starts : List Size) (n : ℕ) : Type 0 where
   pub many : length starts ≡ n
-  pub each : (i : ℕ) (start : Size) → slice_get starts i ≡ Some start → (start.nodes ≡ nodes_before p form.circuit (kid_trees entries form) i) × (start.memories ≡ memories_before p form.circuit (kid_trees entries form) i)
+  pub each : (i : ℕ) (start : Size) → slice_get starts i ≡ Some start
+      → (start.nodes ≡ nodes_before p form.circuit (kid_trees entries form) i) × (start.memories ≡ memories_before p form.circuit (kid_trees entries form) i)
 
 only_zero : (j : ℕ) (x y : Size) → slice_get (x ∷ []) j ≡ Some y → (j ≡ 0) × (x ≡ y)
 only_zero zero x y e = (refl, some_once e)
@@ -49,8 +52,11 @@ starts_more p form entries starts n s a r = record {
     | inl l ↦ a.each i start l
     | inr q ↦ (let z : (q.0 ≡ 0) × (s ≡ start) = only_zero q.0 s start q.2 in
         let x : q.0 ≡ 0 = z.0 in let y : i ≡ length starts + q.0 = q.1 in let m : length starts ≡ n = a.many in
-        let t : i ≡ n = omega (arith, x, y, m) in
-        (ap (λ (w : Size). w.nodes) (sym z.1) ∙ r.nodes ∙ ap (nodes_before p form.circuit (kid_trees entries form)) (sym t), ap (λ (w : Size). w.memories) (sym z.1) ∙ r.memories ∙ ap (memories_before p form.circuit (kid_trees entries form)) (sym t)))
+        let t : i ≡ n = omega (arith, x, y, m) in (
+          ap (λ (w : Size). w.nodes) (sym z.1) ∙ r.nodes ∙ ap (nodes_before p form.circuit (kid_trees entries form)) (sym t),
+          ap (λ (w : Size). w.memories) (sym z.1) ∙ r.memories
+              ∙ ap (memories_before p form.circuit (kid_trees entries form)) (sym t),
+        ))
   ]);
 }
 
@@ -62,14 +68,16 @@ reaches_next entries sizes form a b i id start end are q r f =
 pub starts_next : (p : Place) (form : FormView) (entries : List FormView) (starts new : List Size) (n : ℕ) (s : Size) → AreFirstStarts p form entries starts n
     → Reaches (p.nodes + length form.circuit.nodes) (p.memories + length form.circuit.memories) (kid_trees entries form) n s → new ≡ starts ++ s ∷ [] → AreFirstStarts p form entries new (n + 1)
 starts_next p form entries starts new n s a r q =
-    (let e : suc n ≡ n + 1 = omega arith in subst (λ l. AreFirstStarts p form entries l (n + 1)) (sym q) (subst (λ k. AreFirstStarts p form entries (starts ++ s ∷ []) k) e (starts_more p form entries starts n s a r)))
+    (let e : suc n ≡ n + 1 = omega arith in subst (λ l. AreFirstStarts p form entries l (n + 1)) (sym q)
+    (subst (λ k. AreFirstStarts p form entries (starts ++ s ∷ []) k) e (starts_more p form entries starts n s a r)))
 
 -- the sizes of one entry more
 only_first : {X : Type 0} (j : ℕ) (x y : X) → slice_get (x ∷ []) j ≡ Some y → (j ≡ 0) × (x ≡ y)
 only_first zero x y e = (refl, some_once e)
 only_first (suc j) x y e = cc
 
-pub sizes_more : (entries : List FormView) (sizes new : List (Option Size)) (k : ℕ) (form : FormView) (o : Option Size) → length sizes ≡ k → AreSizes entries sizes → unfolding_of entries (record { 0 = k }) ≡ tree_of entries form
+pub sizes_more : (entries : List FormView) (sizes new : List (Option Size)) (k : ℕ) (form : FormView) (o : Option Size) → length sizes ≡ k → AreSizes entries sizes
+    → unfolding_of entries (record { 0 = k }) ≡ tree_of entries form
     → IfSome o (HasSize (tree_of entries form)) → new ≡ sizes ++ o ∷ [] → AreSizes entries new
 sizes_more entries sizes new k form o m are u h q i size e =
     elim (slice_cases sizes (o ∷ []) i (Some size) (subst (λ l. slice_get l i ≡ Some (Some size)) q e)) [

@@ -40,7 +40,14 @@ module _ (r : Renumbering) (g h : Graph) (width_to : (id : NodeId) (w : ℕ) →
   node_to w (Const value) a b u = u
   node_to w (Two op x y) a b u = (u.0, u.1, width_to x u.0 u.2, width_to y u.1 u.3, u.4)
   node_to w (Not x) a b u = width_to x w u
-  node_to w (Mux sel cases) a b u = (u.0, width_to sel u.0 u.1, subst (λ n. 2 ≤ n) (sym (length-map cases (id_by r))) u.2, subst (λ n. n ≤ 2 ^ u.0) (sym (length-map cases (id_by r))) u.3, all_width_to cases w u.4)
+  node_to w (Mux sel cases) a b u = (
+    u.0,
+    width_to sel u.0 u.1,
+    subst (λ n. 2 ≤ n) (sym (length-map cases (id_by r))) u.2,
+    subst (λ n. n ≤ 2 ^ u.0)
+        (sym (length-map cases (id_by r))) u.3,
+    all_width_to cases w u.4,
+  )
   node_to w (Cat ps) a b u = (u.0, subst (λ n. 2 ≤ n) (sym (length-map ps (id_by r))) u.1, widths_to ps u.0 u.2, u.3)
   node_to w (Select x hi lo) a b u = (u.0, width_to x u.0 u.1, u.2, u.3, u.4)
   node_to w (Reg next enable clear init) a b u = (width_to next w u.0, may_width_to enable 1 u.1, may_clear_to clear w u.2, u.3)

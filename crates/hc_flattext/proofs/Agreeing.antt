@@ -58,7 +58,8 @@ module _ (r s : Renumbering) where
       let n : id_by r next ≡ id_by s next = id_agrees next (head_agrees (node_of next) (optional_node enable ++ clear_node clear) a) in
       let rest : Agree (optional_node enable ++ clear_node clear) = rest_agrees (node_of next) (optional_node enable ++ clear_node clear) a in
       ap (λ x. Reg x (option_map (id_by r) enable) (option_map (clear_by r) clear) init) n
-      ∙ ap₂ (λ e c. Reg (id_by s next) e c init) (enable_agrees enable (left_agrees (optional_node enable) (clear_node clear) rest)) (clear_agrees clear (right_agrees (optional_node enable) (clear_node clear) rest))
+      ∙ ap₂ (λ e c. Reg (id_by s next) e c init) (enable_agrees enable (left_agrees (optional_node enable) (clear_node clear) rest))
+      (clear_agrees clear (right_agrees (optional_node enable) (clear_node clear) rest))
   node_agrees (Read m addr) a =
       ap₂ Read (ap (λ p. record { 0 = number p }) (head_agrees (mem m.0) [] (rest_agrees (node_of addr) (mem m.0 ∷ []) a))) (id_agrees addr (head_agrees (node_of addr) (mem m.0 ∷ []) a))
   node_agrees (InstOut i port) a = ap (λ p. InstOut (record { 0 = number p }) port) (head_agrees (inst i.0) [] a)

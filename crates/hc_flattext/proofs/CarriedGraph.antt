@@ -34,13 +34,16 @@ no_instance f g a b path (Read m addr) e = refl
 no_instance f g a b path (InstOut i port) e = absurd (true≢false e)
 no_instance f g a b path (Op kind args) e = refl
 
-flat_row : (f g a b : ℕ → ℕ) (t : Tree) (o : Occurrence) → IsFlatNode t o → option_map (row_by (record { node = f; mem = g; inst = a })) (row_at t o) ≡ option_map (row_by (record { node = f; mem = g; inst = b })) (row_at t o)
+flat_row : (f g a b : ℕ → ℕ) (t : Tree) (o : Occurrence) → IsFlatNode t o
+    → option_map (row_by (record { node = f; mem = g; inst = a })) (row_at t o) ≡ option_map (row_by (record { node = f; mem = g; inst = b })) (row_at t o)
 flat_row f g a b t o (r, (row, e, q)) =
     ap (option_map (row_by (record { node = f; mem = g; inst = a }))) e
     ∙ ap (λ x. Some (record { width = row.width; node = x; label = row.label })) (no_instance f g a b o.path row.node q)
     ∙ sym (ap (option_map (row_by (record { node = f; mem = g; inst = b }))) e)
 
-top_outputs : (s t : Tree) (l : FlatNumbering) (outputs : List NodeId) (q : List ℕ) (to back : Renumbering) → Partners t s [] q → IsIsomorphism to back (graph t) (graph_at s q) → outputs ≡ map (id_by (within l [])) (graph s).outputs → outputs ≡ map (id_by (then to (within l q))) (graph t).outputs
+top_outputs : (s t : Tree) (l : FlatNumbering) (outputs : List NodeId) (q : List ℕ) (to back : Renumbering) → Partners t s [] q
+    → IsIsomorphism to back (graph t) (graph_at s q) → outputs ≡ map (id_by (within l [])) (graph s).outputs
+    → outputs ≡ map (id_by (then to (within l q))) (graph t).outputs
 top_outputs s t l outputs _ to back top x e = e ∙ ap (map (id_by (within l []))) x.outputs ∙ ids_then to (within l []) (graph t).outputs
 
 module _ (s t : Tree) (g : Graph) (e : Same s t) (ws : IsWhole s) (wt : IsWhole t) (fl : IsFlat s g) where
@@ -67,7 +70,8 @@ module _ (s t : Tree) (g : Graph) (e : Same s t) (ws : IsWhole s) (wt : IsWhole 
   reached {path} r = flat_along t s (same-sym s t e) r (home path).other (home path).to (home path).back (paths r) (pairs r)
 
   -- each pairing gives a node its number
-  number_by : {path q : List ℕ} (n : ℕ) (to back : Renumbering) → FlatReached t path (node n) → Partners t s path q → IsIsomorphism to back (graph_at t path) (graph_at s q) → numbers.node path n ≡ fl.at.node q (to.node n)
+  number_by : {path q : List ℕ} (n : ℕ) (to back : Renumbering) → FlatReached t path (node n) → Partners t s path q
+      → IsIsomorphism to back (graph_at t path) (graph_at s q) → numbers.node path n ≡ fl.at.node q (to.node n)
   number_by {path} {q} n to back r u x =
       let o : ((home path).other ≡ q) × (renumber (home path).to (node n) ≡ renumber to (node n)) = vertex_once t s (home path).to (home path).back to back (paths r) (pairs r) u x (flat_at t r).1 in
       ap₂ (λ p k. fl.at.node p k) o.0 (ap number o.1)
@@ -79,19 +83,23 @@ module _ (s t : Tree) (g : Graph) (e : Same s t) (ws : IsWhole s) (wt : IsWhole 
       let f : FlatReached s h.other (renumber h.to v) = reached r in
       let k : Partner s t h.other = away h.other in
       let o : (k.other ≡ path) × (renumber k.to (renumber h.to v) ≡ renumber h.back (renumber h.to v)) =
-      vertex_once s t k.to k.back h.back h.to (k.paths (flat_at s f).0) (k.pairs (flat_at s f).0) (partners_back t s (paths r)) (isomorphism_back h.to h.back (graph_at t path) (graph_at s h.other) (pairs r)) (flat_at s f).1 in
+      vertex_once s t k.to k.back h.back h.to (k.paths (flat_at s f).0) (k.pairs (flat_at s f).0) (partners_back t s (paths r))
+      (isomorphism_back h.to h.back (graph_at t path) (graph_at s h.other) (pairs r)) (flat_at s f).1 in
       (o.0, o.1 ∙ (pairs r).one_to_one v (flat_at t r).1)
 
-  down_same : (path : List ℕ) (n i port m : ℕ) → FlatReached t path (node n) → NodeIs t path n (InstOut (record { 0 = i }) port) → slice_get (graph_at t (i ∷ path)).outputs port ≡ Some (record { 0 = m }) → numbers.node path n ≡ numbers.node (i ∷ path) m
+  down_same : (path : List ℕ) (n i port m : ℕ) → FlatReached t path (node n) → NodeIs t path n (InstOut (record { 0 = i }) port)
+      → slice_get (graph_at t (i ∷ path)).outputs port ≡ Some (record { 0 = m }) → numbers.node path n ≡ numbers.node (i ∷ path) m
   down_same path n i port m r y o =
       let h : Partner t s path = home path in
-      let z : PairedBelow t s (same-sym s t e) (i ∷ path) (h.to.inst i ∷ h.other) = paired_below t s (same-sym s t e) h.to h.back i (paths r) (pairs r) (instance_reached t path n i port (flat_at t r).1 y) in
+      let z : PairedBelow t s (same-sym s t e) (i ∷ path) (h.to.inst i ∷ h.other) = paired_below t s (same-sym s t e) h.to h.back i (paths r) (pairs r)
+      (instance_reached t path n i port (flat_at t r).1 y) in
       fl.down h.other (h.to.node n) (h.to.inst i) port (z.0.node m) (reached r)
       (node_along t s path h.other h.to h.back (pairs r) n (InstOut (record { 0 = i }) port) (flat_at t r).1 y)
       (output_along (graph_at t (i ∷ path)) (graph_at s (h.to.inst i ∷ h.other)) z.0 z.1 z.3 port m o)
       ∙ sym (number_by m z.0 z.1 (flat.down port r y o) z.2 z.3)
 
-  up_same : (path : List ℕ) (n i port m : ℕ) → FlatReached t (i ∷ path) (node n) → NodeIs t (i ∷ path) n (Input port) → connection (graph_at t path) i port ≡ Some (record { 0 = m }) → numbers.node (i ∷ path) n ≡ numbers.node path m
+  up_same : (path : List ℕ) (n i port m : ℕ) → FlatReached t (i ∷ path) (node n) → NodeIs t (i ∷ path) n (Input port)
+      → connection (graph_at t path) i port ≡ Some (record { 0 = m }) → numbers.node (i ∷ path) n ≡ numbers.node path m
   up_same path n i port m r y o =
       let h : Partner t s path = home path in
       let f : FlatReached t path (node m) = flat.up port r y o in
@@ -119,7 +127,8 @@ module _ (s t : Tree) (g : Graph) (e : Same s t) (ws : IsWhole s) (wt : IsWhole 
       ap away_from (fl.own_number (record { path = (home o.path).other; node = (home o.path).to.node o.node }) (reached r) (flat_here o r f))
       ∙ ap₂ (λ p k. record { path = p; node = k }) (round r).0 (ap number (round r).1)
 
-  memories_same : (path : List ℕ) (m : ℕ) → FlatReached t path (mem m) → slice_get g.memories (numbers.mem path m) ≡ option_map (memory_by (within numbers path)) (slice_get (graph_at t path).memories m)
+  memories_same : (path : List ℕ) (m : ℕ) → FlatReached t path (mem m)
+      → slice_get g.memories (numbers.mem path m) ≡ option_map (memory_by (within numbers path)) (slice_get (graph_at t path).memories m)
   memories_same path m r =
       let h : Partner t s path = home path in
       fl.memories h.other (h.to.mem m) (reached r)

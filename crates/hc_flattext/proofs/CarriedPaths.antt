@@ -61,7 +61,8 @@ module _ (t s : Tree) (e : Same t s) where
   abbrev pub PairedBelow : List ℕ → List ℕ → Type 0
   PairedBelow path other = (to : Renumbering) × (back : Renumbering) × Partners t s path other × IsIsomorphism to back (graph_at t path) (graph_at s other)
 
-  pub paired_below : {path other : List ℕ} (to back : Renumbering) (i : ℕ) → Partners t s path other → IsIsomorphism to back (graph_at t path) (graph_at s other) → Reached (graph_at t path) (inst i) → PairedBelow (i ∷ path) (to.inst i ∷ other)
+  pub paired_below : {path other : List ℕ} (to back : Renumbering) (i : ℕ) → Partners t s path other → IsIsomorphism to back (graph_at t path) (graph_at s other)
+      → Reached (graph_at t path) (inst i) → PairedBelow (i ∷ path) (to.inst i ∷ other)
   paired_below {path} {other} to back i u x r =
       let v : Partners t s (i ∷ path) (to.inst i ∷ other) = below to back u x r refl in
       let z : SomePairs (graph_at t (i ∷ path)) (graph_at s (to.inst i ∷ other)) = pairs_of (tree_at t (i ∷ path)) (tree_at s (to.inst i ∷ other)) (same_at t s e v) in
@@ -88,7 +89,9 @@ partners_once t s (below {p = path} {q = p} {i = i} to back u x r k) (below {q =
     let z : IsIsomorphism out home (graph_at t path) (graph_at s p) = subst (λ o. IsIsomorphism out home (graph_at t path) (graph_at s o)) (sym e) y in
     ap₂ (λ m ms. m ∷ ms) (sym k ∙ ap number (pairing_once to back out home (graph_at t path) (graph_at s p) x z r) ∙ l) e
 
-pub vertex_once : (t s : Tree) {path p q : List ℕ} {v : Vertex} (to back out home : Renumbering) → Partners t s path p → IsIsomorphism to back (graph_at t path) (graph_at s p) → Partners t s path q → IsIsomorphism out home (graph_at t path) (graph_at s q) → Reached (graph_at t path) v → (p ≡ q) × (renumber to v ≡ renumber out v)
+pub vertex_once : (t s : Tree) {path p q : List ℕ} {v : Vertex} (to back out home : Renumbering) → Partners t s path p
+    → IsIsomorphism to back (graph_at t path) (graph_at s p) → Partners t s path q → IsIsomorphism out home (graph_at t path) (graph_at s q) → Reached (graph_at t path) v
+    → (p ≡ q) × (renumber to v ≡ renumber out v)
 vertex_once t s {path} {p} {q} to back out home a x b y r =
     let e : p ≡ q = partners_once t s a b in
     let z : IsIsomorphism out home (graph_at t path) (graph_at s p) = subst (λ o. IsIsomorphism out home (graph_at t path) (graph_at s o)) (sym e) y in

@@ -21,13 +21,16 @@ use Rattle.hc_trees.proofs.Twins.{connection_by, partner_reached}
 use Rattle.hc_flattext.proofs.CarriedPaths.{PairedBelow, paired_below}
 
 -- Nodes, outputs and connections along an isomorphism.
-pub node_along : (t s : Tree) (p q : List ℕ) (to back : Renumbering) → IsIsomorphism to back (graph_at t p) (graph_at s q) → (n : ℕ) (x : Node) → Reached (graph_at t p) (node n) → NodeIs t p n x → NodeIs s q (to.node n) (node_by to x)
+pub node_along : (t s : Tree) (p q : List ℕ) (to back : Renumbering) → IsIsomorphism to back (graph_at t p) (graph_at s q) → (n : ℕ) (x : Node)
+    → Reached (graph_at t p) (node n) → NodeIs t p n x → NodeIs s q (to.node n) (node_by to x)
 node_along t s p q to back e n x r y = (row_by to y.0, e.nodes n r ∙ ap (option_map (row_by to)) y.1, ap (node_by to) y.2)
 
-pub output_along : (g h : Graph) (to back : Renumbering) → IsIsomorphism to back g h → (port m : ℕ) → slice_get g.outputs port ≡ Some (record { 0 = m }) → slice_get h.outputs port ≡ Some (record { 0 = to.node m })
+pub output_along : (g h : Graph) (to back : Renumbering) → IsIsomorphism to back g h → (port m : ℕ) → slice_get g.outputs port ≡ Some (record { 0 = m })
+    → slice_get h.outputs port ≡ Some (record { 0 = to.node m })
 output_along g h to back e port m o = ap (λ l. slice_get l port) e.outputs ∙ slice_get-map (id_by to) g.outputs port ∙ ap (option_map (id_by to)) o
 
-pub connection_along : (g h : Graph) (to back : Renumbering) → IsIsomorphism to back g h → (i port m : ℕ) → Reached g (inst i) → connection g i port ≡ Some (record { 0 = m }) → connection h (to.inst i) port ≡ Some (record { 0 = to.node m })
+pub connection_along : (g h : Graph) (to back : Renumbering) → IsIsomorphism to back g h → (i port m : ℕ) → Reached g (inst i)
+    → connection g i port ≡ Some (record { 0 = m }) → connection h (to.inst i) port ≡ Some (record { 0 = to.node m })
 connection_along g h to back e i port m r o = connection_by g h to back e i port r ∙ ap (option_map (id_by to)) o
 
 -- the instance of a reached output
@@ -39,14 +42,16 @@ module _ (t s : Tree) (e : Same t s) where
   abbrev ReachedAlong : List ℕ → Vertex → Type 0
   ReachedAlong p v = (q : List ℕ) (to back : Renumbering) → Partners t s p q → IsIsomorphism to back (graph_at t p) (graph_at s q) → FlatReached s q (renumber to v)
 
-  down_along : (p : List ℕ) (n i m port : ℕ) → FlatReached t p (node n) → ReachedAlong p (node n) → NodeIs t p n (InstOut (record { 0 = i }) port) → slice_get (graph_at t (i ∷ p)).outputs port ≡ Some (record { 0 = m }) → ReachedAlong (i ∷ p) (node m)
+  down_along : (p : List ℕ) (n i m port : ℕ) → FlatReached t p (node n) → ReachedAlong p (node n) → NodeIs t p n (InstOut (record { 0 = i }) port)
+      → slice_get (graph_at t (i ∷ p)).outputs port ≡ Some (record { 0 = m }) → ReachedAlong (i ∷ p) (node m)
   down_along p n i m port r along y o _ to back (below {q = q} {j = j} out home u x c k) z =
       flat.down port
       (along q out home u x)
       (subst (λ k. NodeIs s q (out.node n) (InstOut (record { 0 = k }) port)) k (node_along t s p q out home x n (InstOut (record { 0 = i }) port) (flat_at t r).1 y))
       (output_along (graph_at t (i ∷ p)) (graph_at s (j ∷ q)) to back z port m o)
 
-  up_along : (p : List ℕ) (n i m port : ℕ) → FlatReached t (i ∷ p) (node n) → ReachedAlong (i ∷ p) (node n) → NodeIs t (i ∷ p) n (Input port) → connection (graph_at t p) i port ≡ Some (record { 0 = m }) → ReachedAlong p (node m)
+  up_along : (p : List ℕ) (n i m port : ℕ) → FlatReached t (i ∷ p) (node n) → ReachedAlong (i ∷ p) (node n) → NodeIs t (i ∷ p) n (Input port)
+      → connection (graph_at t p) i port ≡ Some (record { 0 = m }) → ReachedAlong p (node m)
   up_along p n i m port r along y o q to back u x =
       let c : Reached (graph_at t p) (inst i) = (flat_at t r).0.1 in
       let z : PairedBelow t s e (i ∷ p) (to.inst i ∷ q) = paired_below t s e to back i u x c in
@@ -62,9 +67,11 @@ module _ (t s : Tree) (e : Same t s) where
   flat_along (flat.output {p = v} h) =
       top_along v (flat.output h) (λ to back x. flat.output (subst (λ l. Has l (renumber to v)) (sym (outputs_paired to back (graph t) (graph s) x)) (has_map (renumber to) h)))
   flat_along (flat.to_node {path = p} {p = v} {n = n} r h) =
-      λ q to back u x. flat.to_node (flat_along r q to back u x) (subst (λ l. Has l (node (to.node n))) (sym (fanin_paired to back (graph_at t p) (graph_at s q) x v (flat_at t r).1)) (has_map (renumber to) h))
+      λ q to back u x. flat.to_node (flat_along r q to back u x) (subst (λ l. Has l (node (to.node n)))
+      (sym (fanin_paired to back (graph_at t p) (graph_at s q) x v (flat_at t r).1)) (has_map (renumber to) h))
   flat_along (flat.to_mem {path = p} {p = v} {m = m} r h) =
-      λ q to back u x. flat.to_mem (flat_along r q to back u x) (subst (λ l. Has l (mem (to.mem m))) (sym (fanin_paired to back (graph_at t p) (graph_at s q) x v (flat_at t r).1)) (has_map (renumber to) h))
+      λ q to back u x. flat.to_mem (flat_along r q to back u x) (subst (λ l. Has l (mem (to.mem m))) (sym (fanin_paired to back (graph_at t p) (graph_at s q) x v (flat_at t r).1))
+      (has_map (renumber to) h))
   flat_along (flat.down {path = p} {n = n} {i = i} {m = m} port r y o) = down_along p n i m port r (flat_along r) y o
   flat_along (flat.up {path = p} {n = n} {i = i} {m = m} port r y o) = up_along p n i m port r (flat_along r) y o
 
@@ -87,7 +94,8 @@ alias_by r p q e (Read m addr) = refl
 alias_by r p q e (InstOut i port) = refl
 alias_by r p q e (Op kind args) = refl
 
-pub flat_node_along : (t s : Tree) (p q : List ℕ) (to back : Renumbering) → Partners t s p q → IsIsomorphism to back (graph_at t p) (graph_at s q) → (n : ℕ) → IsFlatNode t (record { path = p; node = n }) → IsFlatNode s (record { path = q; node = to.node n })
+pub flat_node_along : (t s : Tree) (p q : List ℕ) (to back : Renumbering) → Partners t s p q → IsIsomorphism to back (graph_at t p) (graph_at s q) → (n : ℕ)
+    → IsFlatNode t (record { path = p; node = n }) → IsFlatNode s (record { path = q; node = to.node n })
 flat_node_along t s p q to back u x n (r, (row, e, f)) = (
   (partner_reached t s u, reached_to to back (graph_at t p) (graph_at s q) x r.1),
   (row_by to row, x.nodes n r.1 ∙ ap (option_map (row_by to)) e, sym (alias_by to p q (top_together t s u) row.node) ∙ f),

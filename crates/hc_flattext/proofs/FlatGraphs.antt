@@ -57,7 +57,8 @@ module _ (t : Tree) (whole : IsWhole t) where
 
     of_further : (p q : Vertex) → Of p → Has (fanin g p) q → Of q
     of_further (node n) q s h = parts_of s.spot.path (node s.spot.node) q s.reached (subst (λ l. Has l q) (ap fanin_of_row (row_of n s) ∙ row_parts_by (within f.at s.spot.path) (row_at t s.spot)) h)
-    of_further (mem m) q s h = parts_of s.path (mem s.place) q s.reached (subst (λ l. Has l q) (ap fanin_of_memory (memory_of m s) ∙ memory_parts_by (within f.at s.path) (slice_get (graph_at t s.path).memories s.place)) h)
+    of_further (mem m) q s h = parts_of s.path (mem s.place) q s.reached
+        (subst (λ l. Has l q) (ap fanin_of_memory (memory_of m s) ∙ memory_parts_by (within f.at s.path) (slice_get (graph_at t s.path).memories s.place)) h)
     of_further (inst i) q s h = nothing (subst (λ (l : List Instance). Has (fanin_of_instance (slice_get l i)) q) f.instances h)
       where
         nothing : Has [] q → Of q
@@ -66,7 +67,8 @@ module _ (t : Tree) (whole : IsWhole t) where
     of : {p : Vertex} → Reached g p → Of p
     of (output p h) =
         let is : nodes_of g.outputs ≡ map (renumber (within f.at [])) (nodes_of (graph t).outputs) = ap nodes_of f.outputs ∙ nodes_of_by (within f.at []) (graph t).outputs in
-        let x : (v : Vertex) × Has (nodes_of (graph t).outputs) v × (renumber (within f.at []) v ≡ p) = has_from_map (renumber (within f.at [])) (nodes_of (graph t).outputs) p (subst (λ l. Has l p) is h) in
+        let x : (v : Vertex) × Has (nodes_of (graph t).outputs) v × (renumber (within f.at []) v ≡ p) = has_from_map (renumber (within f.at [])) (nodes_of (graph t).outputs) p
+        (subst (λ l. Has l p) is h) in
         subst Of x.2 (first_of x.0 (flat.output x.1))
       where
         first_of : (v : Vertex) → FlatReached t [] v → Of (renumber (within f.at []) v)
@@ -106,7 +108,8 @@ module _ (t : Tree) (whole : IsWhole t) where
       outputs_to : h.outputs ≡ map (id_by to) g.outputs
       outputs_to =
           k.outputs
-          ∙ sym (ap (map (id_by to)) f.outputs ∙ ids_then (within f.at []) to (graph t).outputs ∙ ids_agree (then (within f.at []) to) (within k.at []) (graph t).outputs (λ p c. vertex_to [] p (flat.output c)))
+          ∙ sym (ap (map (id_by to)) f.outputs ∙ ids_then (within f.at []) to (graph t).outputs ∙ ids_agree (then (within f.at []) to) (within k.at []) (graph t).outputs
+          (λ p c. vertex_to [] p (flat.output c)))
 
       row_to : (n : ℕ) → Reached g (node n) → slice_get h.nodes (to.node n) ≡ option_map (row_by to) (slice_get g.nodes n)
       row_to n r =

@@ -36,7 +36,12 @@ form_text_flat g form title text c x = (
   c.back,
   c.form.canonical,
   c.isomorphism,
-  (x.text_is.0, x.text_is.1, module_text_single form.circuit x.modules (λ i. []) title text (lines_text (module_lines (name_in x.text_is.0) form.circuit (λ i. []) title)) agrees x.text_is (x.text_is.0, x.text_is.1, refl)),
+  (
+    x.text_is.0,
+    x.text_is.1,
+    module_text_single form.circuit x.modules (λ i. []) title text (lines_text (module_lines (name_in x.text_is.0) form.circuit (λ i. []) title)) agrees
+        x.text_is (x.text_is.0, x.text_is.1, refl),
+  ),
 )
   where
     agrees : (k : ℕ) → k < length form.circuit.instances → x.modules k ≡ []

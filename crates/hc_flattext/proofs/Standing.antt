@@ -46,15 +46,18 @@ node_of_port g (id ∷ ids) (q ∷ ports) h (suc k) p e = node_of_port g ids por
 
 -- an output of an instance has an inner wire
 inner_wire : (s : Tree) → IsWhole s → (n port : ℕ) (i : InstId) (row : NodeRow) → slice_get (graph s).nodes n ≡ Some row → row.node ≡ InstOut i port
-    → (id : NodeId) × (wire : NodeRow) × (driver : Option NodeId) × (slice_get (graph (kid s i.0)).outputs port ≡ Some id) × (slice_get (graph (kid s i.0)).nodes id.0 ≡ Some wire) × (wire.node ≡ Wire driver)
+    → (id : NodeId) × (wire : NodeRow) × (driver : Option NodeId) × (slice_get (graph (kid s i.0)).outputs port ≡ Some id) × (slice_get (graph (kid s i.0)).nodes id.0 ≡ Some wire)
+    × (wire.node ≡ Wire driver)
 inner_wire s w n port i row e q =
     let l : (it : Instance) × (p : Port) × (slice_get (graph s).instances i.0 ≡ Some it) × (slice_get it.ports.outputs port ≡ Some p) × (p.width ≡ row.width) =
     subst (IsLawfulNode (graph s) row.width) q ((lawful s w).nodes n row e).1 in
     let k : ((graph (kid s i.0)).ports ≡ l.0.ports) × IsWhole (kid s i.0) = whole_kid s w i.0 l.0 l.2 in
     let inner : Graph = graph (kid s i.0) in
     let law : IsLawful inner = lawful (kid s i.0) k.1 in
-    let o : (id : NodeId) × (slice_get inner.outputs port ≡ Some id) = node_of_port inner inner.outputs inner.ports.outputs law.outputs port l.1 (subst (λ (ports : Ports). slice_get ports.outputs port ≡ Some l.1) (sym k.0) l.3) in
-    let x : (wire : NodeRow) × (driver : Option NodeId) × (slice_get inner.nodes o.0.0 ≡ Some wire) × (wire.node ≡ Wire driver) × (wire.label ≡ None) = law.wires o.0 (has_slice inner.outputs port o.0 o.1) in
+    let o : (id : NodeId) × (slice_get inner.outputs port ≡ Some id) = node_of_port inner inner.outputs inner.ports.outputs law.outputs port l.1
+    (subst (λ (ports : Ports). slice_get ports.outputs port ≡ Some l.1) (sym k.0) l.3) in
+    let x : (wire : NodeRow) × (driver : Option NodeId) × (slice_get inner.nodes o.0.0 ≡ Some wire) × (wire.node ≡ Wire driver) × (wire.label ≡ None) = law.wires o.0
+    (has_slice inner.outputs port o.0 o.1) in
     (o.0, x.0, x.1, o.1, x.2, x.3)
 
 -- an input of an instance has a connection
@@ -66,7 +69,8 @@ outer_node s w i r n port row e q =
     let inner : Graph = graph (kid s i) in
     let l : (p : Port) × (slice_get inner.ports.inputs port ≡ Some p) × (p.width ≡ row.width) = subst (IsLawfulNode inner row.width) q ((lawful (kid s i) k.1).nodes n row e).1 in
     let c : (id : NodeId) × (slice_get it.0.conns port ≡ Some id) =
-    node_of_port (graph s) it.0.conns it.0.ports.inputs ((lawful s w).instances it.0 (has_slice (graph s).instances i it.0 it.1)).conns port l.0 (subst (λ (ports : Ports). slice_get ports.inputs port ≡ Some l.0) k.0 l.1) in
+    node_of_port (graph s) it.0.conns it.0.ports.inputs ((lawful s w).instances it.0 (has_slice (graph s).instances i it.0 it.1)).conns port l.0
+    (subst (λ (ports : Ports). slice_get ports.inputs port ≡ Some l.0) k.0 l.1) in
     (c.0, ap (λ o. connection_of o port) it.1 ∙ c.1)
 
 -- a node that passes nothing on, an output of an instance, or an input below the top
@@ -112,7 +116,8 @@ module _ (t : Tree) (whole : IsWhole t) where
         number = λ g f. f.down path n i.0 port o.0.0 r (row, e, q) o.3;
       }
 
-  goes_up : (i : ℕ) (path : List ℕ) (n : ℕ) (row : NodeRow) (port : ℕ) → FlatReached t (i ∷ path) (node n) → slice_get (graph_at t (i ∷ path)).nodes n ≡ Some row → row.node ≡ Input port → ((m : ℕ) → FlatReached t path (node m) → Stands path m) → Stands (i ∷ path) n
+  goes_up : (i : ℕ) (path : List ℕ) (n : ℕ) (row : NodeRow) (port : ℕ) → FlatReached t (i ∷ path) (node n) → slice_get (graph_at t (i ∷ path)).nodes n ≡ Some row
+      → row.node ≡ Input port → ((m : ℕ) → FlatReached t path (node m) → Stands path m) → Stands (i ∷ path) n
   goes_up i path n row port r e q above =
       let a : IsReachedPath t (i ∷ path) = (flat_at t r).0 in
       let o : _ = outer_node (tree_at t path) (whole_at t whole path a.0) i a.1 n port row e q in

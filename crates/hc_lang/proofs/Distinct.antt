@@ -28,7 +28,8 @@ or-cond true c = refl
 or-cond false c = refl
 
 -- the names after the one at i, against those seen and that one
-pub seen_next : (names keys more : List (Bor Text)) (w : Bor Text) → ((q : Bor Text) → has more q.now ≡ cond (same_bytes w.now q.now) true (has keys q.now)) → (v : Text) → is_among v (w.now ∷ map text_at keys) ≡ is_among v (map text_at more)
+pub seen_next : (names keys more : List (Bor Text)) (w : Bor Text) → ((q : Bor Text) → has more q.now ≡ cond (same_bytes w.now q.now) true (has keys q.now)) → (v : Text)
+    → is_among v (w.now ∷ map text_at keys) ≡ is_among v (map text_at more)
 seen_next names keys more w h v =
     ap (λ b. same_bytes v w.now || b) (sym (has-among keys v))
     ∙ ap (λ b. b || has keys v) (same_bytes-symm v w.now)

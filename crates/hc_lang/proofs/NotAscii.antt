@@ -37,7 +37,8 @@ bad_lines : (text : List ℕ) (n : ℕ) → bad_line n text ≡ bad_in n (lines 
 bad_lines [] n = refl
 bad_lines (b ∷ text) n = by (λ k. bad_lines text k) (is_allowed b) refl (b == 10) refl
   where
-    by : ((k : ℕ) → bad_line k text ≡ bad_in k (lines text)) → (g : Bool) → is_allowed b ≡ g → (e : Bool) → (b == 10) ≡ e → cond (is_allowed b) (bad_line (cond (b == 10) (suc n) n) text) (Some n) ≡ bad_in n (cond (b == 10) ([] ∷ lines text) (onto_first b (lines text)))
+    by : ((k : ℕ) → bad_line k text ≡ bad_in k (lines text)) → (g : Bool) → is_allowed b ≡ g → (e : Bool) → (b == 10) ≡ e
+        → cond (is_allowed b) (bad_line (cond (b == 10) (suc n) n) text) (Some n) ≡ bad_in n (cond (b == 10) ([] ∷ lines text) (onto_first b (lines text)))
     by rest true f true e =
         ap (λ g. cond g (bad_line (cond (b == 10) (suc n) n) text) (Some n)) f
         ∙ ap (λ t. bad_line (cond t (suc n) n) text) e
@@ -61,7 +62,8 @@ none_bad : (text : List ℕ) (n : ℕ) → bad_line n text ≡ None → list_all
 none_bad [] n e = refl
 none_bad (b ∷ text) n e = by (λ k h. none_bad text k h) (is_allowed b) refl e
   where
-    by : ((k : ℕ) → bad_line k text ≡ None → list_all is_allowed text ≡ true) → (g : Bool) → is_allowed b ≡ g → cond g (bad_line (cond (b == 10) (suc n) n) text) (Some n) ≡ None → list_all is_allowed (b ∷ text) ≡ true
+    by : ((k : ℕ) → bad_line k text ≡ None → list_all is_allowed text ≡ true) → (g : Bool) → is_allowed b ≡ g
+        → cond g (bad_line (cond (b == 10) (suc n) n) text) (Some n) ≡ None → list_all is_allowed (b ∷ text) ≡ true
     by rest true f e = ap (λ g. g && list_all is_allowed text) f ∙ rest (cond (b == 10) (suc n) n) e
     by rest false f e = absurd cc
 
@@ -113,9 +115,23 @@ bad_is n (l ∷ ls) m e = by (λ h. bad_is (suc n) ls m h) (is_good l) refl e
           i = suc b.i;
           line = b.line;
           is = (let h : m ≡ b.i + suc n = b.is in omega arith);
-          earliest = record { before = l ∷ b.earliest.before; after = b.earliest.after; place = ap suc b.earliest.place; parts = ap (λ x. l ∷ x) b.earliest.parts; holds = b.earliest.holds; none_before = ((λ bad. let clash : false ≡ true = sym (ap not f) ∙ bad in absurd cc), b.earliest.none_before) };
+          earliest = record {
+            before = l ∷ b.earliest.before;
+            after = b.earliest.after;
+            place = ap suc b.earliest.place;
+            parts = ap
+                (λ x. l ∷ x) b.earliest.parts;
+            holds = b.earliest.holds;
+            none_before = ((λ bad. let clash : false ≡ true = sym (ap not f) ∙ bad in absurd cc), b.earliest.none_before);
+          };
         }
-    by rest false f e = record { i = 0; line = l; is = (let k : n ≡ m = cc in let z : n ≡ 0 + n = omega arith in sym k ∙ z); earliest = record { before = []; after = ls; place = refl; parts = refl; holds = ap not f; none_before = tt } }
+    by rest false f e = record {
+      i = 0;
+      line = l;
+      is = (let k : n ≡ m = cc in let z : n ≡ 0 + n = omega arith in sym k ∙ z);
+      earliest = record
+          { before = []; after = ls; place = refl; parts = refl; holds = ap not f; none_before = tt };
+    }
 
 pub bad_earliest : (text : List ℕ) (m : ℕ) → bad_line 1 text ≡ Some m → (i : ℕ) × (line : List ℕ) × (m ≡ i + 1) × IsEarliest IsBad (lines text) i line
 bad_earliest text m e = let b = bad_is 1 (lines text) m (sym (bad_lines text 1) ∙ e) in (b.i, b.line, b.is, b.earliest)

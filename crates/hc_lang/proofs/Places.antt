@@ -77,7 +77,8 @@ is_some a b e = cc
 
 begun : (most : ℕ) (rows : List Row) (cs : List CircuitText) (n : ℕ) (l : Line) (q : Outline) → AreCircuits rows cs → after_circuits cs n l ≡ Some q → Next most rows [] (n, l) q
 begun most rows cs n (g.Circuit w ps) q h e =
-    subst (λ q. Next most rows [] (n, g.Circuit w ps) q) (is_some (outline cs (place.Circuit (circuit n w ps [] [] []))) q e) (record { before = rows; body = []; parts = refl; are_circuits = h; in_blocks = r.none }, refl, λ k. k)
+    subst (λ q. Next most rows [] (n, g.Circuit w ps) q) (is_some (outline cs (place.Circuit (circuit n w ps [] [] []))) q e)
+    (record { before = rows; body = []; parts = refl; are_circuits = h; in_blocks = r.none }, refl, λ k. k)
 begun most rows cs n (g.Top w args) q h e =
     subst (λ q. Next most rows [] (n, g.Top w args) q) (is_some (outline cs (place.Top (top_line n w args))) q e) (record { before = rows; parts = refl; are_circuits = h }, refl, λ k. k)
 begun most rows cs n (g.Port i w width) q h e = absurd cc
@@ -90,7 +91,8 @@ begun most rows cs n g.Bench q h e = absurd cc
 begun most rows cs n (g.Step w) q h e = absurd cc
 
 -- a circuit without open blocks is whole
-pub whole : (rows : List Row) (cs : List CircuitText) (m : ℕ) (v : Text) (qs : List Text) (hs : List Head) (ss : List Stmt) → InCircuit rows cs (circuit m v qs hs [] ss) → AreCircuits rows (cs ++ closed (circuit m v qs hs [] ss) ∷ [])
+pub whole : (rows : List Row) (cs : List CircuitText) (m : ℕ) (v : Text) (qs : List Text) (hs : List Head) (ss : List Stmt) → InCircuit rows cs (circuit m v qs hs [] ss)
+    → AreCircuits rows (cs ++ closed (circuit m v qs hs [] ss) ∷ [])
 whole rows cs m v qs hs ss h =
     let c : CircuitText = closed (circuit m v qs hs [] ss) in
     subst (λ rs. AreCircuits rs (cs ++ c ∷ [])) (sym h.parts) (circuits_append ((m, g.Circuit v qs) ∷ (map head_row hs ++ h.body)) (c ∷ []) h.are_circuits (one_circuit c h.body h.in_blocks))
@@ -113,7 +115,8 @@ step_last : (xs : List BenchLine) (x : BenchLine) → map step_row xs ++ step_ro
 step_last [] x = refl
 step_last (y ∷ xs) x = ap (λ rs. step_row y ∷ rs) (step_last xs x)
 
-head_parts : (rows before body : List Row) (hs : List Head) (x : Row) (h : Head) → body ≡ [] → rows ≡ before ++ (x ∷ (map head_row hs ++ body)) → rows ++ head_row h ∷ [] ≡ before ++ (x ∷ (map head_row (hs ++ h ∷ []) ++ []))
+head_parts : (rows before body : List Row) (hs : List Head) (x : Row) (h : Head) → body ≡ [] → rows ≡ before ++ (x ∷ (map head_row hs ++ body))
+    → rows ++ head_row h ∷ [] ≡ before ++ (x ∷ (map head_row (hs ++ h ∷ []) ++ []))
 head_parts rows before body hs x h none e =
     parts_more rows before (map head_row hs) body x (head_row h) e
     ∙ ap (λ b. before ++ (x ∷ (map head_row hs ++ (b ++ head_row h ∷ [])))) none
@@ -145,7 +148,11 @@ not_first : {A B : Type 0} (t : Bool) (d : A) (f : A → B) (q : B) → t ≡ fa
 not_first true d f q g e = absurd cc
 not_first false d f q g e = absurd cc
 
-at_else : (most : ℕ) (rows : List Row) (cs : List CircuitText) (m : ℕ) (v : Text) (qs : List Text) (hs : List Head) (k : ℕ) (o : Opening) (before : List Stmt) (bs : List Block) (ss : List Stmt) (n : ℕ) (q : Outline) → InCircuit rows cs (circuit m v qs hs (block k o before ∷ bs) ss) → option_map (λ d. outline cs (place.Circuit d)) (option_map (λ o. circuit m v qs hs (block k o before ∷ bs) []) (turned ss o)) ≡ Some q → Next most rows (k ∷ map block_line bs) (n, g.Else) q
+at_else : (most : ℕ) (rows : List Row) (cs : List CircuitText) (m : ℕ) (v : Text) (qs : List Text) (hs : List Head) (k : ℕ) (o : Opening) (before : List Stmt) (bs : List Block)
+    (ss : List Stmt) (n : ℕ) (q : Outline)
+    → InCircuit rows cs (circuit m v qs hs (block k o before ∷ bs) ss)
+    → option_map (λ d. outline cs (place.Circuit d)) (option_map (λ o. circuit m v qs hs (block k o before ∷ bs) []) (turned ss o)) ≡ Some q
+    → Next most rows (k ∷ map block_line bs) (n, g.Else) q
 at_else most rows cs m v qs hs k (opening.If c) before bs ss n q h e =
     let b = h.in_blocks in
     let o = b.4 in
@@ -155,7 +162,13 @@ at_else most rows cs m v qs hs k (opening.If c) before bs ss n q h e =
         body = h.body ++ (n, g.Else) ∷ [];
         parts = parts_more rows h.before (map head_row hs) h.body (m, g.Circuit v qs) (n, g.Else) h.parts;
         are_circuits = h.are_circuits;
-        in_blocks = (b.0, b.1 ++ (n, g.Else) ∷ [], ap (λ rs. rs ++ (n, g.Else) ∷ []) b.2 ∙ append_assoc b.0 b.1 ((n, g.Else) ∷ []), b.3, (o.0, [], n, ap (λ rs. rs ++ (n, g.Else) ∷ []) o.1, o.2, r.none));
+        in_blocks = (
+          b.0,
+          b.1 ++ (n, g.Else) ∷ [],
+          ap (λ rs. rs ++ (n, g.Else) ∷ []) b.2 ∙ append_assoc b.0 b.1 ((n, g.Else) ∷ []),
+          b.3,
+          (o.0, [], n, ap (λ rs. rs ++ (n, g.Else) ∷ []) o.1, o.2, r.none),
+        );
       },
       refl,
       λ k. k,
@@ -163,7 +176,8 @@ at_else most rows cs m v qs hs k (opening.If c) before bs ss n q h e =
 at_else most rows cs m v qs hs k (opening.For w a b) before bs ss n q h e = absurd cc
 at_else most rows cs m v qs hs k (opening.Else c us) before bs ss n q h e = absurd cc
 
-in_place : (most : ℕ) (rows : List Row) (cs : List CircuitText) (m : ℕ) (v : Text) (qs : List Text) (hs : List Head) (bs : List Block) (ss : List Stmt) (n : ℕ) (l : Line) (q : Outline) → InCircuit rows cs (circuit m v qs hs bs ss) → after_circuit most cs (circuit m v qs hs bs ss) n l ≡ Some q → Next most rows (map block_line bs) (n, l) q
+in_place : (most : ℕ) (rows : List Row) (cs : List CircuitText) (m : ℕ) (v : Text) (qs : List Text) (hs : List Head) (bs : List Block) (ss : List Stmt) (n : ℕ) (l : Line) (q : Outline)
+    → InCircuit rows cs (circuit m v qs hs bs ss) → after_circuit most cs (circuit m v qs hs bs ss) n l ≡ Some q → Next most rows (map block_line bs) (n, l) q
 in_place most rows cs m v qs hs [] ss n (g.Circuit w ps) q h e = begun most rows (cs ++ closed (circuit m v qs hs [] ss) ∷ []) n (g.Circuit w ps) q (whole rows cs m v qs hs ss h) e
 in_place most rows cs m v qs hs (b ∷ bs) ss n (g.Circuit w ps) q h e = absurd (barred (s.is_none (b ∷ bs)) _ q (some_items b bs) e)
 in_place most rows cs m v qs hs [] ss n (g.Top w args) q h e = begun most rows (cs ++ closed (circuit m v qs hs [] ss) ∷ []) n (g.Top w args) q (whole rows cs m v qs hs ss h) e
@@ -255,12 +269,14 @@ at_top most rows cs t n (g.Step w) q h e some = absurd cc
 bench_parts : (rows before : List Row) (t b y : Row) (steps : List Row) → rows ≡ before ++ (t ∷ (b ∷ steps)) → rows ++ y ∷ [] ≡ before ++ (t ∷ (b ∷ (steps ++ y ∷ [])))
 bench_parts rows before t b y steps e = ap (λ rs. rs ++ y ∷ []) e ∙ append_assoc before (t ∷ (b ∷ steps)) (y ∷ [])
 
-at_bench : (most : ℕ) (rows : List Row) (cs : List CircuitText) (t : TopLine) (first : ℕ) (steps : List BenchLine) (n : ℕ) (l : Line) (q : Outline) → InBench rows cs t first steps → in_bench cs t first steps n l ≡ Some q → Next most rows (first ∷ []) (n, l) q
+at_bench : (most : ℕ) (rows : List Row) (cs : List CircuitText) (t : TopLine) (first : ℕ) (steps : List BenchLine) (n : ℕ) (l : Line) (q : Outline)
+    → InBench rows cs t first steps → in_bench cs t first steps n l ≡ Some q → Next most rows (first ∷ []) (n, l) q
 at_bench most rows cs t first steps n (g.Step w) q h e =
     subst (λ q. Next most rows (first ∷ []) (n, g.Step w) q) (is_some (outline cs (place.Bench t first (steps ++ bench_line n w ∷ []))) q e) (
       record {
         before = h.before;
-        parts = bench_parts rows h.before (top_row t) (first, g.Bench) (n, g.Step w) (map step_row steps) h.parts ∙ ap (λ rs. h.before ++ (top_row t ∷ ((first, g.Bench) ∷ rs))) (step_last steps (bench_line n w));
+        parts = bench_parts rows h.before (top_row t) (first, g.Bench) (n, g.Step w) (map step_row steps) h.parts ∙ ap (λ rs. h.before ++ (top_row t ∷ ((first, g.Bench) ∷ rs)))
+            (step_last steps (bench_line n w));
         are_circuits = h.are_circuits;
       },
       refl,
@@ -287,7 +303,8 @@ at_bench most rows cs t first steps n (g.If c) q h e = absurd cc
 at_bench most rows cs t first steps n g.Else q h e = absurd cc
 at_bench most rows cs t first steps n g.Bench q h e = absurd cc
 
-pub stands_next : (most : ℕ) (rows : List Row) (cs : List CircuitText) (p : Place) (n : ℕ) (l : Line) (q : Outline) → 1 ≤ most → Stands rows cs p → after most cs p n l ≡ Some q → Next most rows (lines_at p) (n, l) q
+pub stands_next : (most : ℕ) (rows : List Row) (cs : List CircuitText) (p : Place) (n : ℕ) (l : Line) (q : Outline) → 1 ≤ most → Stands rows cs p
+    → after most cs p n l ≡ Some q → Next most rows (lines_at p) (n, l) q
 stands_next most rows cs place.Start n l q some h e = begun most rows cs n l q h e
 stands_next most rows cs (place.Circuit c) n l q some h e = in_place most rows cs c.line c.name c.params c.heads c.blocks c.body n l q h e
 stands_next most rows cs (place.Top t) n l q some h e = at_top most rows cs t n l q h e some

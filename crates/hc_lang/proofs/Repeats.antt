@@ -30,11 +30,14 @@ same_repeated s t (x ∷ rows) h =
 left : (rows : List Row) (i : ℕ) (x : Row) → i < length rows → x ≡ get_or rows i x → drop i rows ≡ x ∷ drop (i + 1) rows
 left rows i x h is = drop-cons rows i x h ∙ ap (λ y. y ∷ drop (suc i) rows) (sym is) ∙ ap (λ k. x ∷ drop k rows) (sym (add-one i))
 
-at_circuit : (s : List Text) (n : ℕ) (l : Line) (w : Text) (ps : List Text) (rest : List Row) → l ≡ g.Circuit w ps → first_repeated s ((n, l) ∷ rest) ≡ cond (is_among w s) (Some n) (first_repeated (w ∷ s) rest)
+at_circuit : (s : List Text) (n : ℕ) (l : Line) (w : Text) (ps : List Text) (rest : List Row) → l ≡ g.Circuit w ps
+    → first_repeated s ((n, l) ∷ rest) ≡ cond (is_among w s) (Some n) (first_repeated (w ∷ s) rest)
 at_circuit s n l w ps rest e = ap (λ l. first_repeated s ((n, l) ∷ rest)) e
 
 -- a circuit whose name was seen
-pub found_again : (keys : List (Bor Text)) (rows : List Row) (i : ℕ) (x : Row) (w : Text) (ps : List Text) (b : Bor Text) (added : Bool) (all : Option ℕ) → i < length rows → x ≡ get_or rows i x → x.1 ≡ g.Circuit w ps → b.now ≡ w → first_repeated (map text_at keys) (drop i rows) ≡ all → added ≡ not (has keys b.now) → added ≡ false → Some x.0 ≡ all
+pub found_again : (keys : List (Bor Text)) (rows : List Row) (i : ℕ) (x : Row) (w : Text) (ps : List Text) (b : Bor Text) (added : Bool) (all : Option ℕ)
+    → i < length rows → x ≡ get_or rows i x → x.1 ≡ g.Circuit w ps → b.now ≡ w → first_repeated (map text_at keys) (drop i rows) ≡ all → added ≡ not (has keys b.now)
+    → added ≡ false → Some x.0 ≡ all
 found_again keys rows i x w ps b added all h is line name so_far new none =
     sym (ap (λ t. cond t (Some x.0) (first_repeated (w ∷ map text_at keys) (drop (i + 1) rows))) seen)
     ∙ sym (at_circuit (map text_at keys) x.0 x.1 w ps (drop (i + 1) rows) line)
@@ -49,7 +52,9 @@ found_again keys rows i x w ps b added all h is line name so_far new none =
     seen = sym (has-among keys w) ∙ ap (has keys) (sym name) ∙ not_false (has keys b.now) (sym new ∙ none)
 
 -- one that was not
-pub found_first : (keys more : List (Bor Text)) (rows : List Row) (i : ℕ) (x : Row) (w : Text) (ps : List Text) (b : Bor Text) (added : Bool) (all : Option ℕ) → i < length rows → x ≡ get_or rows i x → x.1 ≡ g.Circuit w ps → b.now ≡ w → first_repeated (map text_at keys) (drop i rows) ≡ all → added ≡ not (has keys b.now) → added ≡ true → ((q : Bor Text) → has more q.now ≡ cond (same_bytes b.now q.now) true (has keys q.now)) → first_repeated (map text_at more) (drop (i + 1) rows) ≡ all
+pub found_first : (keys more : List (Bor Text)) (rows : List Row) (i : ℕ) (x : Row) (w : Text) (ps : List Text) (b : Bor Text) (added : Bool) (all : Option ℕ)
+    → i < length rows → x ≡ get_or rows i x → x.1 ≡ g.Circuit w ps → b.now ≡ w → first_repeated (map text_at keys) (drop i rows) ≡ all → added ≡ not (has keys b.now)
+    → added ≡ true → ((q : Bor Text) → has more q.now ≡ cond (same_bytes b.now q.now) true (has keys q.now)) → first_repeated (map text_at more) (drop (i + 1) rows) ≡ all
 found_first keys more rows i x w ps b added all h is line name so_far new one update =
     sym (same_repeated (b.now ∷ map text_at keys) (map text_at more) (drop (i + 1) rows) (seen_next keys keys more b update))
     ∙ ap (λ v. first_repeated (v ∷ map text_at keys) (drop (i + 1) rows)) name
@@ -78,6 +83,8 @@ no_circuit s n g.Bench rest h = refl
 no_circuit s n (g.Step w) rest h = refl
 
 -- another line
-pub found_other : (keys : List (Bor Text)) (rows : List Row) (i : ℕ) (x : Row) (all : Option ℕ) → i < length rows → x ≡ get_or rows i x → ((w : Text) (ps : List Text) → x.1 ≡ g.Circuit w ps → ⊥) → first_repeated (map text_at keys) (drop i rows) ≡ all → first_repeated (map text_at keys) (drop (i + 1) rows) ≡ all
+pub found_other : (keys : List (Bor Text)) (rows : List Row) (i : ℕ) (x : Row) (all : Option ℕ) → i < length rows → x ≡ get_or rows i x
+    → ((w : Text) (ps : List Text) → x.1 ≡ g.Circuit w ps → ⊥) → first_repeated (map text_at keys) (drop i rows) ≡ all
+    → first_repeated (map text_at keys) (drop (i + 1) rows) ≡ all
 found_other keys rows i x all h is other so_far =
     sym (no_circuit (map text_at keys) x.0 x.1 (drop (i + 1) rows) other) ∙ sym (ap (first_repeated (map text_at keys)) (left rows i x h is)) ∙ so_far

@@ -19,7 +19,8 @@ pub stmts_append : {rows : List Row} {ss : List Stmt} (more : List Row) (ts : Li
 stmts_append more ts r.none k = k
 stmts_append more ts (r.simple line w h) k = r.simple line w (stmts_append more ts h k)
 stmts_append more ts (r.loop {inner} {rows} {body} {ss} line last v a b i h) k =
-    subst (λ rs. AreStmts ((line, g.For v a b) ∷ rs) (stmt line (what.For v a b body) ∷ (ss ++ ts))) (sym (append_assoc inner ((last, g.End) ∷ rows) more)) (r.loop line last v a b i (stmts_append more ts h k))
+    subst (λ rs. AreStmts ((line, g.For v a b) ∷ rs) (stmt line (what.For v a b body) ∷ (ss ++ ts))) (sym (append_assoc inner ((last, g.End) ∷ rows) more))
+    (r.loop line last v a b i (stmts_append more ts h k))
 stmts_append more ts (r.choice {inner} {rows} {yes = us} {ss} line last c i h) k =
     subst (λ rs. AreStmts ((line, g.If c) ∷ rs) (stmt line (what.If c us []) ∷ (ss ++ ts))) (sym (append_assoc inner ((last, g.End) ∷ rows) more)) (r.choice line last c i (stmts_append more ts h k))
 stmts_append more ts (r.choice_else {inner} {other} {rows} {yes = us} {no = vs} {ss} line middle last c i e h) k =
@@ -71,7 +72,8 @@ opened_end n last (opening.Else c us) rows ss h =
     subst (λ rs. AreStmts (rs ++ ((last, g.End) ∷ [])) (stmt n (what.If c us ss) ∷ [])) (sym h.3)
     (subst (λ rs. AreStmts ((n, g.If c) ∷ rs) (stmt n (what.If c us ss) ∷ [])) (sym (append_assoc h.0 ((h.2, g.Else) ∷ h.1) ((last, g.End) ∷ []))) (r.choice_else n h.2 last c h.4 h.5 r.none))
 
-pub blocks_end : (rows : List Row) (last : ℕ) (b : Block) (bs : List Block) (ss : List Stmt) → InBlocks rows (b ∷ bs) ss → InBlocks (rows ++ ((last, g.End) ∷ [])) bs (b.before ++ stmt b.line (block_of b.opening ss) ∷ [])
+pub blocks_end : (rows : List Row) (last : ℕ) (b : Block) (bs : List Block) (ss : List Stmt) → InBlocks rows (b ∷ bs) ss
+    → InBlocks (rows ++ ((last, g.End) ∷ [])) bs (b.before ++ stmt b.line (block_of b.opening ss) ∷ [])
 blocks_end rows last b bs ss h =
     subst (λ rs. InBlocks rs bs (b.before ++ stmt b.line (block_of b.opening ss) ∷ [])) (sym (ap (λ rs. rs ++ ((last, g.End) ∷ [])) h.2 ∙ append_assoc h.0 h.1 ((last, g.End) ∷ [])))
     (blocks_more h.0 (h.1 ++ ((last, g.End) ∷ [])) bs b.before (stmt b.line (block_of b.opening ss) ∷ []) h.3 (opened_end b.line last b.opening h.1 ss h.4))

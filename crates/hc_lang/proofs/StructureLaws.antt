@@ -52,19 +52,38 @@ circuits_go most is rows cs h d =
     goes_less rows (0, g.Top [] []) (design_goes (rows ++ (0, g.Top [] []) ∷ []) (design cs (top_line 0 [] []) [])
     (record { circuits = rows; bench = []; parts = refl; are_circuits = h; is_bench = r.absent; blocks = few most _ _ is more }))
 
-circuit_goes : (bs : List Block) (most : ℕ) → most ≡ 64 → 1 ≤ most → (rows : List Row) (cs : List CircuitText) (m : ℕ) (v : Text) (qs : List Text) (hs : List Head) (ss : List Stmt) → Upto most rows (outline cs (place.Circuit (circuit m v qs hs bs ss))) → GoesOn rows
+circuit_goes : (bs : List Block) (most : ℕ) → most ≡ 64 → 1 ≤ most
+    → (rows : List Row) (cs : List CircuitText) (m : ℕ) (v : Text) (qs : List Text) (hs : List Head) (ss : List Stmt)
+    → Upto most rows (outline cs (place.Circuit (circuit m v qs hs bs ss))) → GoesOn rows
 circuit_goes [] most is some rows cs m v qs hs ss h = circuits_go most is rows (cs ++ closed (circuit m v qs hs [] ss) ∷ []) (whole rows cs m v qs hs ss h.stands) h.depth
 circuit_goes (b ∷ bs) most is some rows cs m v qs hs ss h =
-    goes_less rows (0, g.End) (circuit_goes bs most is some (rows ++ (0, g.End) ∷ []) cs m v qs hs _ (next_upto most some rows (outline cs (place.Circuit (circuit m v qs hs (b ∷ bs) ss))) _ (0, g.End) h refl))
+    goes_less rows (0, g.End) (circuit_goes bs most is some (rows ++ (0, g.End) ∷ []) cs m v qs hs _
+    (next_upto most some rows (outline cs (place.Circuit (circuit m v qs hs (b ∷ bs) ss))) _ (0, g.End) h refl))
 
 pub is_design : (most : ℕ) → most ≡ 64 → (rows : List Row) (cs : List CircuitText) (p : Place) (d : Design) → Upto most rows (outline cs p) → design_at cs p ≡ Some d → AreDesign rows d
 is_design most is rows cs (place.Top t) d h e =
-    subst (AreDesign rows) (same (design cs t []) d e) (record { circuits = h.stands.before; bench = []; parts = h.stands.parts; are_circuits = h.stands.are_circuits; is_bench = r.absent; blocks = few most _ _ is h.depth })
+    subst (AreDesign rows) (same (design cs t []) d e) (record {
+      circuits = h.stands.before;
+      bench = [];
+      parts = h.stands.parts;
+      are_circuits = h.stands.are_circuits;
+      is_bench =
+          r.absent;
+      blocks = few most _ _ is h.depth;
+    })
   where
     same : (a b : Design) → Some a ≡ Some b → a ≡ b
     same a b e = cc
 is_design most is rows cs (place.End t xs) d h e =
-    subst (AreDesign rows) (same (design cs t xs) d e) (record { circuits = h.stands.before; bench = _; parts = h.stands.parts; are_circuits = h.stands.are_circuits; is_bench = r.present h.stands.first h.stands.last xs; blocks = few most _ _ is h.depth })
+    subst (AreDesign rows) (same (design cs t xs) d e) (record {
+      circuits = h.stands.before;
+      bench = _;
+      parts = h.stands.parts;
+      are_circuits = h.stands.are_circuits;
+      is_bench =
+          r.present h.stands.first h.stands.last xs;
+      blocks = few most _ _ is h.depth;
+    })
   where
     same : (a b : Design) → Some a ≡ Some b → a ≡ b
     same a b e = cc
@@ -87,7 +106,8 @@ pub steps-append : (most : ℕ) (o : Outline) (xs ys : List Row) → steps most 
 steps-append most o [] ys = refl
 steps-append most o (x ∷ xs) ys = through (λ p. steps-append most p xs ys) (step most o x)
   where
-    through : ((p : Outline) → steps most p (xs ++ ys) ≡ and_then (steps most p xs) (λ p. steps most p ys)) → (q : Option Outline) → and_then (misplaced_at x.0 q) (λ p. steps most p (xs ++ ys)) ≡ and_then (and_then (misplaced_at x.0 q) (λ p. steps most p xs)) (λ p. steps most p ys)
+    through : ((p : Outline) → steps most p (xs ++ ys) ≡ and_then (steps most p xs) (λ p. steps most p ys)) → (q : Option Outline)
+        → and_then (misplaced_at x.0 q) (λ p. steps most p (xs ++ ys)) ≡ and_then (and_then (misplaced_at x.0 q) (λ p. steps most p xs)) (λ p. steps most p ys)
     through rest None = refl
     through rest (Some p) = rest p
 
@@ -106,7 +126,8 @@ stopped_at : (most : ℕ) (o : Outline) (rows : List Row) (e : FaultKind × ℕ)
 stopped_at most o [] e h = absurd cc
 stopped_at most o (x ∷ xs) e h = by (λ p k. stopped_at most p xs e k) (step most o x) refl h
   where
-    by : ((p : Outline) → steps most p xs ≡ Err e → Stopped most p xs e) → (q : Option Outline) → step most o x ≡ q → and_then (misplaced_at x.0 q) (λ p. steps most p xs) ≡ Err e → Stopped most o (x ∷ xs) e
+    by : ((p : Outline) → steps most p xs ≡ Err e → Stopped most p xs e) → (q : Option Outline) → step most o x ≡ q
+        → and_then (misplaced_at x.0 q) (λ p. steps most p xs) ≡ Err e → Stopped most o (x ∷ xs) e
     by rest None is h = record { before = []; at = x; after = xs; last = o; parts = refl; goes = refl; stops = is; is = (let f : (fault.Misplaced, x.0) ≡ e = cc in sym f) }
     by rest (Some p) is h =
         let s = rest p h in
@@ -128,7 +149,8 @@ upto_all most some [] rows o p h e = subst (Upto most (rows ++ [])) (same o p e)
     same a b e = cc
 upto_all most some (x ∷ more) rows o p h e = by (λ q k f. upto_all most some more (rows ++ x ∷ []) q p k f) (step most o x) refl e
   where
-    by : ((q : Outline) → Upto most (rows ++ x ∷ []) q → steps most q more ≡ found p → Upto most ((rows ++ x ∷ []) ++ more) p) → (q : Option Outline) → step most o x ≡ q → and_then (misplaced_at x.0 q) (λ q. steps most q more) ≡ found p → Upto most (rows ++ x ∷ more) p
+    by : ((q : Outline) → Upto most (rows ++ x ∷ []) q → steps most q more ≡ found p → Upto most ((rows ++ x ∷ []) ++ more) p) → (q : Option Outline) → step most o x ≡ q
+        → and_then (misplaced_at x.0 q) (λ q. steps most q more) ≡ found p → Upto most (rows ++ x ∷ more) p
     by rest None is f = absurd cc
     by rest (Some q) is f = subst (λ rs. Upto most rs p) (append_assoc rows (x ∷ []) more) (rest q (next_upto most some rows o q x h is) f)
 
@@ -175,11 +197,14 @@ stopped_misplaced most is some rows e h =
 pub misplaced_stopped : (most : ℕ) → most ≡ 64 → 1 ≤ most → (rows : List Row) (n : ℕ) → IsMisplaced rows n → steps most start rows ≡ Err (fault.Misplaced, n)
 misplaced_stopped most is some rows n h =
     let p = goes_placed most is h.before h.goes_on in
-    ap (steps most start) h.parts ∙ steps-append most start h.before ((n, h.line) ∷ h.after) ∙ ap (λ x. and_then x (λ q. steps most q ((n, h.line) ∷ h.after))) p.1 ∙ by p.0 p.1 (step most p.0 (n, h.line)) refl
+    ap (steps most start) h.parts ∙ steps-append most start h.before ((n, h.line) ∷ h.after) ∙ ap (λ x. and_then x (λ q. steps most q ((n, h.line) ∷ h.after))) p.1
+    ∙ by p.0 p.1 (step most p.0 (n, h.line)) refl
   where
-    by : (o : Outline) → steps most start h.before ≡ found o → (q : Option Outline) → step most o (n, h.line) ≡ q → and_then (misplaced_at n (step most o (n, h.line))) (λ q. steps most q h.after) ≡ Err (fault.Misplaced, n)
+    by : (o : Outline) → steps most start h.before ≡ found o → (q : Option Outline) → step most o (n, h.line) ≡ q
+        → and_then (misplaced_at n (step most o (n, h.line))) (λ q. steps most q h.after) ≡ Err (fault.Misplaced, n)
     by o e None f = ap (λ q. and_then (misplaced_at n q) (λ q. steps most q h.after)) f
-    by o e (Some q) f = absurd (h.no_further (placed_goes most is some (h.before ++ (n, h.line) ∷ []) q (steps-append most start h.before ((n, h.line) ∷ []) ∙ ap (λ x. and_then x (λ q. steps most q ((n, h.line) ∷ []))) e ∙ ap (λ q. and_then (misplaced_at n q) (λ q. found q)) f)))
+    by o e (Some q) f = absurd (h.no_further (placed_goes most is some (h.before ++ (n, h.line) ∷ []) q
+        (steps-append most start h.before ((n, h.line) ∷ []) ∙ ap (λ x. and_then x (λ q. steps most q ((n, h.line) ∷ []))) e ∙ ap (λ q. and_then (misplaced_at n q) (λ q. found q)) f)))
 
 -- the design of rows is the one that they are
 pub design_found : (most : ℕ) → most ≡ 64 → (rows : List Row) (d : Design) → AreDesign rows d → (o : Outline) × (steps most start rows ≡ found o) × (design_of o ≡ Some d)

@@ -21,7 +21,8 @@ outside most cs (place.Top t) n l h = refl
 outside most cs (place.Bench t first xs) n l h = refl
 outside most cs (place.End t xs) n l h = refl
 
-last_step : (most : ℕ) (rows : List Row) (o : Outline) (n : ℕ) (l : Line) (x : Found Outline) → steps most start rows ≡ found o → misplaced_at n (after most o.circuits o.place n l) ≡ x → steps most start (rows ++ (n, l) ∷ []) ≡ x
+last_step : (most : ℕ) (rows : List Row) (o : Outline) (n : ℕ) (l : Line) (x : Found Outline) → steps most start rows ≡ found o
+    → misplaced_at n (after most o.circuits o.place n l) ≡ x → steps most start (rows ++ (n, l) ∷ []) ≡ x
 last_step most rows o n l x e f =
     steps-append most start rows ((n, l) ∷ [])
     ∙ ap (λ y. and_then y (λ p. steps most p ((n, l) ∷ []))) e
@@ -33,11 +34,13 @@ last_step most rows o n l x e f =
     same (Err e) = refl
 
 -- one row more
-pub goes_on : (most : ℕ) (rows : List Row) (o p : Outline) (n : ℕ) (l : Line) → steps most start rows ≡ found o → misplaced_at n (after most o.circuits o.place n l) ≡ found p → steps most start (rows ++ (n, l) ∷ []) ≡ found p
+pub goes_on : (most : ℕ) (rows : List Row) (o p : Outline) (n : ℕ) (l : Line) → steps most start rows ≡ found o
+    → misplaced_at n (after most o.circuits o.place n l) ≡ found p → steps most start (rows ++ (n, l) ∷ []) ≡ found p
 goes_on most rows o p n l e f = last_step most rows o n l (found p) e f
 
 -- a row without a place stops the reading of all
-pub stops_all : (most : ℕ) (all rows rest more : List Row) (o : Outline) (n : ℕ) (l : Line) (e : TextStop) → rows ++ rest ≡ all → rest ≡ (n, l) ∷ more → steps most start rows ≡ found o → Fails e (misplaced_at n (after most o.circuits o.place n l)) → Fails e (steps most start all)
+pub stops_all : (most : ℕ) (all rows rest more : List Row) (o : Outline) (n : ℕ) (l : Line) (e : TextStop) → rows ++ rest ≡ all → rest ≡ (n, l) ∷ more
+    → steps most start rows ≡ found o → Fails e (misplaced_at n (after most o.circuits o.place n l)) → Fails e (steps most start all)
 stops_all most all rows rest more o n l stop.Memory is next e f = f
 stops_all most all rows rest more o n l (stop.Fault k m) is next e f =
     ap (steps most start) (sym is ∙ ap (λ rs. rows ++ rs) next ∙ sym (append_assoc rows ((n, l) ∷ []) more))

@@ -129,7 +129,8 @@ no_top_none rows cs (place.End t steps) h e = let clash : false ≡ true = sym e
 -- ---- rows
 
 abbrev ends : Outline → List Row → Found Design
-ends o rows = and_then (pass fault.Unclosed (open_line o.place)) (λ u. and_then (pass fault.RepeatedCircuit (first_repeated [] rows)) (λ v. and_then (pass fault.ReservedName (first_reserved rows)) (λ w. finished (design_of o))))
+ends o rows = and_then (pass fault.Unclosed (open_line o.place))
+    (λ u. and_then (pass fault.RepeatedCircuit (first_repeated [] rows)) (λ v. and_then (pass fault.ReservedName (first_reserved rows)) (λ w. finished (design_of o))))
 
 rows_to : (most : ℕ) (rows : List Row) (x : Found Outline) → steps most start rows ≡ x → of_rows most rows ≡ and_then x (λ o. ends o rows)
 unfolding of_rows
@@ -137,7 +138,8 @@ rows_to most rows x e = ap (λ x. and_then x (λ o. ends o rows)) e
 
 text_to : (d most : ℕ) (text : List ℕ) (rows : List Row) → bad_line 1 text ≡ None → rows_from d 1 (lines text) ≡ found rows → parsed d most text ≡ of_rows most rows
 unfolding parsed
-text_to d most text rows e f = ap (λ o. and_then (pass fault.NotAscii o) (λ u. and_then (rows_from d 1 (lines text)) (λ rows. of_rows most rows))) e ∙ ap (λ x. and_then x (λ rows. of_rows most rows)) f
+text_to d most text rows e f = ap (λ o. and_then (pass fault.NotAscii o) (λ u. and_then (rows_from d 1 (lines text)) (λ rows. of_rows most rows))) e
+    ∙ ap (λ x. and_then x (λ rows. of_rows most rows)) f
 
 finished_is : (o : Option Design) (d : Design) → finished o ≡ found d → o ≡ Some d
 finished_is None d e = absurd cc
@@ -165,14 +167,16 @@ record Read (most : ℕ) (rows : List Row) (d : Design) : Type 0 where
 rows_read_as : (most : ℕ) (rows : List Row) (d : Design) → of_rows most rows ≡ found d → Read most rows d
 rows_read_as most rows d e =
     let s = went (steps most start rows) (λ o. ends o rows) d (sym (rows_to most rows (steps most start rows) refl) ∙ e) in
-    let u = passed fault.Unclosed (open_line s.0.place) (λ u. and_then (pass fault.RepeatedCircuit (first_repeated [] rows)) (λ v. and_then (pass fault.ReservedName (first_reserved rows)) (λ w. finished (design_of s.0)))) d s.2 in
+    let u = passed fault.Unclosed (open_line s.0.place) (λ u. and_then (pass fault.RepeatedCircuit (first_repeated [] rows))
+    (λ v. and_then (pass fault.ReservedName (first_reserved rows)) (λ w. finished (design_of s.0)))) d s.2 in
     let v = passed fault.RepeatedCircuit (first_repeated [] rows) (λ v. and_then (pass fault.ReservedName (first_reserved rows)) (λ w. finished (design_of s.0))) d u.1 in
     let w = passed fault.ReservedName (first_reserved rows) (λ w. finished (design_of s.0)) d v.1 in
     record { to = s.0; stepped = s.1; differ = v.0; free = w.0; is = finished_is (design_of s.0) d w.1 }
 
 ends_in : (o : Outline) (rows : List Row) → open_line o.place ≡ None → first_repeated [] rows ≡ None → first_reserved rows ≡ None → ends o rows ≡ finished (design_of o)
 ends_in o rows e f g =
-    ap (λ x. and_then (pass fault.Unclosed x) (λ u. and_then (pass fault.RepeatedCircuit (first_repeated [] rows)) (λ v. and_then (pass fault.ReservedName (first_reserved rows)) (λ w. finished (design_of o))))) e
+    ap (λ x. and_then (pass fault.Unclosed x) (λ u. and_then (pass fault.RepeatedCircuit (first_repeated [] rows))
+    (λ v. and_then (pass fault.ReservedName (first_reserved rows)) (λ w. finished (design_of o))))) e
     ∙ ap (λ x. and_then (pass fault.RepeatedCircuit x) (λ v. and_then (pass fault.ReservedName (first_reserved rows)) (λ w. finished (design_of o)))) f
     ∙ ap (λ x. and_then (pass fault.ReservedName x) (λ w. finished (design_of o))) g
 
@@ -209,23 +213,30 @@ closed_rows most im some rows o s e = record { goes_on = placed_goes most im som
 rows_fault : (most : ℕ) → most ≡ 64 → 1 ≤ most → (text : List ℕ) (rows : List Row) (e : FaultKind × ℕ) → HasRows text rows → of_rows most rows ≡ Err_ e → Faulty text e
 rows_fault most im some text rows e has h = at_steps (stopped (steps most start rows) (λ o. ends o rows) e (sym (rows_to most rows (steps most start rows) refl) ∙ h))
   where
-    at_names : (o : Outline) → steps most start rows ≡ found o → open_line o.place ≡ None → first_repeated [] rows ≡ None → Failed fault.ReservedName (first_reserved rows) (finished (design_of o)) e → Faulty text e
+    at_names : (o : Outline) → steps most start rows ≡ found o → open_line o.place ≡ None → first_repeated [] rows ≡ None
+        → Failed fault.ReservedName (first_reserved rows) (finished (design_of o)) e → Faulty text e
     at_names o s c f (inl x) = subst (Faulty text) (sym x.2) (r.reserved x.0 rows has (closed_rows most im some rows o s c) f x.1)
     at_names o s c f (inr x) =
         let u = unfinished (design_of o) e x.1 in
         subst (Faulty text) (sym u.1) (r.no_top rows has (closed_rows most im some rows o s c) f x.0 (ap not (no_design rows o.circuits o.place (upto most some rows o s).stands c u.0)))
 
-    at_circuits : (o : Outline) → steps most start rows ≡ found o → open_line o.place ≡ None → Failed fault.RepeatedCircuit (first_repeated [] rows) (and_then (pass fault.ReservedName (first_reserved rows)) (λ w. finished (design_of o))) e → Faulty text e
+    at_circuits : (o : Outline) → steps most start rows ≡ found o → open_line o.place ≡ None
+        → Failed fault.RepeatedCircuit (first_repeated [] rows) (and_then (pass fault.ReservedName (first_reserved rows)) (λ w. finished (design_of o))) e → Faulty text e
     at_circuits o s c (inl x) = subst (Faulty text) (sym x.2) (r.repeated x.0 rows has (closed_rows most im some rows o s c) x.1)
     at_circuits o s c (inr x) = at_names o s c x.0 (failed fault.ReservedName (first_reserved rows) (λ w. finished (design_of o)) e x.1)
 
-    at_end : (o : Outline) → steps most start rows ≡ found o → Failed fault.Unclosed (open_line o.place) (and_then (pass fault.RepeatedCircuit (first_repeated [] rows)) (λ v. and_then (pass fault.ReservedName (first_reserved rows)) (λ w. finished (design_of o)))) e → Faulty text e
-    at_end o s (inl x) = let l = line_open o.place x.0 x.1 in subst (Faulty text) (sym x.2) (r.unclosed x.0 l.0 rows has (placed_goes most im some rows o s) ((upto most some rows o s).depth.are_open ∙ l.1))
+    at_end : (o : Outline) → steps most start rows ≡ found o
+        → Failed fault.Unclosed (open_line o.place) (and_then (pass fault.RepeatedCircuit (first_repeated [] rows))
+        (λ v. and_then (pass fault.ReservedName (first_reserved rows)) (λ w. finished (design_of o)))) e
+        → Faulty text e
+    at_end o s (inl x) = let l = line_open o.place x.0 x.1 in subst (Faulty text) (sym x.2)
+        (r.unclosed x.0 l.0 rows has (placed_goes most im some rows o s) ((upto most some rows o s).depth.are_open ∙ l.1))
     at_end o s (inr x) = at_circuits o s x.0 (failed fault.RepeatedCircuit (first_repeated [] rows) (λ v. and_then (pass fault.ReservedName (first_reserved rows)) (λ w. finished (design_of o))) e x.1)
 
     at_steps : (steps most start rows ≡ Err_ e) ⊎ ((o : Outline) × (steps most start rows ≡ found o) × (ends o rows ≡ Err_ e)) → Faulty text e
     at_steps (inl x) = let m = stopped_misplaced most im some rows e x in subst (λ k. FirstFault text k e.1) (sym m.0) (r.misplaced e.1 rows has m.1)
-    at_steps (inr x) = at_end x.0 x.1 (failed fault.Unclosed (open_line x.0.place) (λ u. and_then (pass fault.RepeatedCircuit (first_repeated [] rows)) (λ v. and_then (pass fault.ReservedName (first_reserved rows)) (λ w. finished (design_of x.0)))) e x.2)
+    at_steps (inr x) = at_end x.0 x.1 (failed fault.Unclosed (open_line x.0.place)
+        (λ u. and_then (pass fault.RepeatedCircuit (first_repeated [] rows)) (λ v. and_then (pass fault.ReservedName (first_reserved rows)) (λ w. finished (design_of x.0)))) e x.2)
 
 pub stops_faulty : (d most : ℕ) → d ≡ 64 → most ≡ 64 → 1 ≤ most → (text : List ℕ) (e : FaultKind × ℕ) → parsed d most text ≡ Err_ e → Faulty text e
 unfolding parsed
@@ -245,7 +256,8 @@ bad_stops d most text n e = ap (λ o. and_then (pass fault.NotAscii o) (λ u. an
 
 syntax_stops : (d most : ℕ) (text : List ℕ) (n : ℕ) → bad_line 1 text ≡ None → rows_from d 1 (lines text) ≡ Err_ (fault.Syntax, n) → parsed d most text ≡ Err_ (fault.Syntax, n)
 unfolding parsed
-syntax_stops d most text n e f = ap (λ o. and_then (pass fault.NotAscii o) (λ u. and_then (rows_from d 1 (lines text)) (λ rows. of_rows most rows))) e ∙ ap (λ x. and_then x (λ rows. of_rows most rows)) f
+syntax_stops d most text n e f = ap (λ o. and_then (pass fault.NotAscii o) (λ u. and_then (rows_from d 1 (lines text)) (λ rows. of_rows most rows))) e
+    ∙ ap (λ x. and_then x (λ rows. of_rows most rows)) f
 
 closed_line : (most : ℕ) → 1 ≤ most → (rows : List Row) (o : Outline) (lines : List ℕ) → steps most start rows ≡ found o → open_blocks [] rows ≡ lines → open_line o.place ≡ first_line lines
 closed_line most some rows o lines s e = open_is o.place ∙ ap first_line (sym (upto most some rows o s).depth.are_open ∙ e)
@@ -258,16 +270,19 @@ faulty_stops d most is im some text k n (r.misplaced m rows has h) =
 faulty_stops d most is im some text k n (r.unclosed m outer rows has goes h) =
     let p = goes_placed most im rows goes in
     text_to d most text rows (no_bad_line text has.allowed) (rows_read d is has.are_rows) ∙ rows_to most rows (found p.0) p.1
-    ∙ ap (λ x. and_then (pass fault.Unclosed x) (λ u. and_then (pass fault.RepeatedCircuit (first_repeated [] rows)) (λ v. and_then (pass fault.ReservedName (first_reserved rows)) (λ w. finished (design_of p.0))))) (closed_line most some rows p.0 (m ∷ outer) p.1 h)
+    ∙ ap (λ x. and_then (pass fault.Unclosed x) (λ u. and_then (pass fault.RepeatedCircuit (first_repeated [] rows))
+    (λ v. and_then (pass fault.ReservedName (first_reserved rows)) (λ w. finished (design_of p.0))))) (closed_line most some rows p.0 (m ∷ outer) p.1 h)
 faulty_stops d most is im some text k n (r.repeated m rows has closed h) =
     let p = goes_placed most im rows closed.goes_on in
     text_to d most text rows (no_bad_line text has.allowed) (rows_read d is has.are_rows) ∙ rows_to most rows (found p.0) p.1
-    ∙ ap (λ x. and_then (pass fault.Unclosed x) (λ u. and_then (pass fault.RepeatedCircuit (first_repeated [] rows)) (λ v. and_then (pass fault.ReservedName (first_reserved rows)) (λ w. finished (design_of p.0))))) (closed_line most some rows p.0 [] p.1 closed.none_open)
+    ∙ ap (λ x. and_then (pass fault.Unclosed x) (λ u. and_then (pass fault.RepeatedCircuit (first_repeated [] rows))
+    (λ v. and_then (pass fault.ReservedName (first_reserved rows)) (λ w. finished (design_of p.0))))) (closed_line most some rows p.0 [] p.1 closed.none_open)
     ∙ ap (λ x. and_then (pass fault.RepeatedCircuit x) (λ v. and_then (pass fault.ReservedName (first_reserved rows)) (λ w. finished (design_of p.0)))) h
 faulty_stops d most is im some text k n (r.reserved m rows has closed f h) =
     let p = goes_placed most im rows closed.goes_on in
     text_to d most text rows (no_bad_line text has.allowed) (rows_read d is has.are_rows) ∙ rows_to most rows (found p.0) p.1
-    ∙ ap (λ x. and_then (pass fault.Unclosed x) (λ u. and_then (pass fault.RepeatedCircuit (first_repeated [] rows)) (λ v. and_then (pass fault.ReservedName (first_reserved rows)) (λ w. finished (design_of p.0))))) (closed_line most some rows p.0 [] p.1 closed.none_open)
+    ∙ ap (λ x. and_then (pass fault.Unclosed x) (λ u. and_then (pass fault.RepeatedCircuit (first_repeated [] rows))
+    (λ v. and_then (pass fault.ReservedName (first_reserved rows)) (λ w. finished (design_of p.0))))) (closed_line most some rows p.0 [] p.1 closed.none_open)
     ∙ ap (λ x. and_then (pass fault.RepeatedCircuit x) (λ v. and_then (pass fault.ReservedName (first_reserved rows)) (λ w. finished (design_of p.0)))) f
     ∙ ap (λ x. and_then (pass fault.ReservedName x) (λ w. finished (design_of p.0))) h
 faulty_stops d most is im some text k n (r.no_top rows has closed f g h) =

@@ -22,7 +22,8 @@ stmts-NoTops r.none = tt
 stmts-NoTops (r.simple line w s) = (refl, stmts-NoTops s)
 stmts-NoTops (r.loop {inner} {rows} line last v a b s t) = (refl, NoTops-append inner ((last, g.End) ∷ rows) (stmts-NoTops s) (refl, stmts-NoTops t))
 stmts-NoTops (r.choice {inner} {rows} line last c s t) = (refl, NoTops-append inner ((last, g.End) ∷ rows) (stmts-NoTops s) (refl, stmts-NoTops t))
-stmts-NoTops (r.choice_else {inner} {other} {rows} line middle last c s t u) = (refl, NoTops-append inner ((middle, g.Else) ∷ (other ++ ((last, g.End) ∷ rows))) (stmts-NoTops s) (refl, NoTops-append other ((last, g.End) ∷ rows) (stmts-NoTops t) (refl, stmts-NoTops u)))
+stmts-NoTops (r.choice_else {inner} {other} {rows} line middle last c s t u) =
+    (refl, NoTops-append inner ((middle, g.Else) ∷ (other ++ ((last, g.End) ∷ rows))) (stmts-NoTops s) (refl, NoTops-append other ((last, g.End) ∷ rows) (stmts-NoTops t) (refl, stmts-NoTops u)))
 
 heads-NoTops : (hs : List Head) → NoTops (map head_row hs)
 heads-NoTops [] = tt

@@ -18,7 +18,8 @@ finished None = Err (fault.NoTop, 0)
 finished (Some d) = Ok d
 
 unfoldable pub of_rows : ℕ → List Row → Found Design
-of_rows most rows = and_then (steps most start rows) (λ o. and_then (pass fault.Unclosed (open_line o.place)) (λ u. and_then (pass fault.RepeatedCircuit (first_repeated [] rows)) (λ v. and_then (pass fault.ReservedName (first_reserved rows)) (λ w. finished (design_of o)))))
+of_rows most rows = and_then (steps most start rows) (λ o. and_then (pass fault.Unclosed (open_line o.place))
+    (λ u. and_then (pass fault.RepeatedCircuit (first_repeated [] rows)) (λ v. and_then (pass fault.ReservedName (first_reserved rows)) (λ w. finished (design_of o)))))
 
 unfoldable pub parsed : ℕ → ℕ → List ℕ → Found Design
 parsed d most text = and_then (pass fault.NotAscii (bad_line 1 text)) (λ u. and_then (rows_from d 1 (lines text)) (λ rows. of_rows most rows))

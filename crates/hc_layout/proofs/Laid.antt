@@ -31,7 +31,8 @@ own_of forms (Some id) (Some begin) i q e = go (slice_get (kids_of forms id) i) 
     go None s t = cc
     go (Some kid) s t = record { id = id; kid = kid; begin = begin; entry_is = refl; start_is = refl; kid_is = s; number_is = sym (some_once t) }
 
-pub place_of : (forms : List FormView) (entry : Option EntryId) (start : Option ℕ) (i begin : ℕ) (id kid : EntryId) → entry ≡ Some id → start ≡ Some begin → slice_get (kids_of forms id) i ≡ Some kid → own_place forms entry start i ≡ Some (begin + i)
+pub place_of : (forms : List FormView) (entry : Option EntryId) (start : Option ℕ) (i begin : ℕ) (id kid : EntryId) → entry ≡ Some id → start ≡ Some begin
+    → slice_get (kids_of forms id) i ≡ Some kid → own_place forms entry start i ≡ Some (begin + i)
 place_of forms entry start i begin id kid e s k =
     ap (λ o. own_place forms o start i) e ∙ ap (λ o. own_place forms (Some id) o i) s ∙ ap (λ o. own_number o begin i) k
 
@@ -92,7 +93,8 @@ module _ (forms : List FormView) (top : EntryId) (entries : List EntryId) (first
   old_within : (k begin : ℕ) → slice_get first k ≡ Some begin → k < length entries
   old_within k begin e = omega (arith, slice_get_within first k begin e, laid.few)
 
-  new_own : (k i begin : ℕ) (x kid : EntryId) → slice_get more_entries k ≡ Some x → slice_get more_first k ≡ Some begin → slice_get (kids_of forms x) i ≡ Some kid → slice_get more_entries (begin + i) ≡ Some kid
+  new_own : (k i begin : ℕ) (x kid : EntryId) → slice_get more_entries k ≡ Some x → slice_get more_first k ≡ Some begin → slice_get (kids_of forms x) i ≡ Some kid
+      → slice_get more_entries (begin + i) ≡ Some kid
   new_own k i begin x kid a b c = elim (start_cases k begin b) [
     | inl s ↦ slice_left entries (kids_of forms id) (begin + i) kid (laid.own k i begin x kid (old_entry k x (old_within k begin s) a) s c)
     | inr t ↦ last t.0 t.1
@@ -116,7 +118,8 @@ module _ (forms : List FormView) (top : EntryId) (entries : List EntryId) (first
     | inr t ↦ (let w : length (kids_of forms id) ≡ length (kids_of forms x) = ap (λ (y : EntryId). length (kids_of forms y)) (own_id k x t.0 a) in omega (arith, w, longer, t.1))
   ]
 
-  new_apart : (k q begin next : ℕ) (x : EntryId) → slice_get more_entries k ≡ Some x → slice_get more_first k ≡ Some begin → slice_get more_first q ≡ Some next → k < q → begin + length (kids_of forms x) ≤ next
+  new_apart : (k q begin next : ℕ) (x : EntryId) → slice_get more_entries k ≡ Some x → slice_get more_first k ≡ Some begin → slice_get more_first q ≡ Some next → k < q
+      → begin + length (kids_of forms x) ≤ next
   new_apart k q begin next x a b c d = elim (start_cases k begin b) [
     | inl s ↦ (elim (start_cases q next c) [
       | inl t ↦ laid.apart k q begin next x (old_entry k x (old_within k begin s) a) s t d
@@ -128,10 +131,12 @@ module _ (forms : List FormView) (top : EntryId) (entries : List EntryId) (first
     ])
   ]
 
-  kept_place : (k i q : ℕ) → kid_place forms (record { entries = entries; first = first }) (Some k) i ≡ Some q → kid_place forms (record { entries = more_entries; first = more_first }) (Some k) i ≡ Some q
+  kept_place : (k i q : ℕ) → kid_place forms (record { entries = entries; first = first }) (Some k) i ≡ Some q
+      → kid_place forms (record { entries = more_entries; first = more_first }) (Some k) i ≡ Some q
   kept_place k i q e =
       let o = own_of forms (slice_get entries k) (slice_get first k) i q e in
-      place_of forms (slice_get more_entries k) (slice_get more_first k) i o.begin o.id o.kid (slice_left entries (kids_of forms id) k o.id o.entry_is) (slice_left first (length entries ∷ []) k o.begin o.start_is) o.kid_is ∙ ap Some (sym o.number_is)
+      place_of forms (slice_get more_entries k) (slice_get more_first k) i o.begin o.id o.kid (slice_left entries (kids_of forms id) k o.id o.entry_is)
+      (slice_left first (length entries ∷ []) k o.begin o.start_is) o.kid_is ∙ ap Some (sym o.number_is)
 
   last_start : slice_get more_first p ≡ Some (length entries)
   last_start = ap (slice_get (first ++ length entries ∷ [])) (let e : p ≡ length first + 0 = omega (arith, many) in e) ∙ slice_right first (length entries ∷ []) 0
@@ -140,8 +145,12 @@ module _ (forms : List FormView) (top : EntryId) (entries : List EntryId) (first
   fresh_place q h l =
       let w : q - length entries < length (kids_of forms id) = omega (arith, h, l, longer) in
       let kid = some_at (kids_of forms id) (q - length entries) w in
-      let e : length entries + (q - length entries) ≡ q = omega (arith, h) in
-      (p, q - length entries, place_of forms (slice_get more_entries p) (slice_get more_first p) (q - length entries) (length entries) id kid.0 (slice_left entries (kids_of forms id) p id here) last_start kid.1 ∙ ap Some e)
+      let e : length entries + (q - length entries) ≡ q = omega (arith, h) in (
+        p,
+        q - length entries,
+        place_of forms (slice_get more_entries p) (slice_get more_first p) (q - length entries) (length entries) id kid.0
+            (slice_left entries (kids_of forms id) p id here) last_start kid.1 ∙ ap Some e,
+      )
 
   below_or_past : (q n : ℕ) → (q < n) ⊎ (n ≤ q)
   below_or_past q zero = inr (omega arith)
@@ -168,7 +177,8 @@ module _ (forms : List FormView) (top : EntryId) (entries : List EntryId) (first
 
 -- nothing is left out
 module _ (forms : List FormView) (top : EntryId) (entries : List EntryId) (first : List ℕ) (p : ℕ) (id : EntryId)
-    (laid : IsLaid forms top (record { entries = entries; first = first })) (dense : IsDense forms (record { entries = entries; first = first })) (many : length first ≡ p) (here : slice_get entries p ≡ Some id)
+    (laid : IsLaid forms top (record { entries = entries; first = first })) (dense : IsDense forms (record { entries = entries; first = first })) (many : length first ≡ p)
+    (here : slice_get entries p ≡ Some id)
     (lower : (kid : EntryId) → Has (kids_of forms id) kid → kid.0 < id.0) where
   dense_start : (begin : ℕ) → slice_get (first ++ length entries ∷ []) 0 ≡ Some begin → begin ≡ 1
   dense_start begin e = elim (start_cases forms top entries first p id laid many here lower 0 begin e) [
@@ -176,7 +186,8 @@ module _ (forms : List FormView) (top : EntryId) (entries : List EntryId) (first
     | inr b ↦ (let z : length first ≡ 0 = omega (arith, many, b.0) in let one : length entries ≡ 1 = dense.alone z in omega (arith, one, b.1))
   ]
 
-  dense_next : (k begin following : ℕ) (x : EntryId) → slice_get (entries ++ kids_of forms id) k ≡ Some x → slice_get (first ++ length entries ∷ []) k ≡ Some begin → slice_get (first ++ length entries ∷ []) (k + 1) ≡ Some following
+  dense_next : (k begin following : ℕ) (x : EntryId) → slice_get (entries ++ kids_of forms id) k ≡ Some x → slice_get (first ++ length entries ∷ []) k ≡ Some begin
+      → slice_get (first ++ length entries ∷ []) (k + 1) ≡ Some following
       → following ≡ begin + length (kids_of forms x)
   dense_next k begin following x a b c = elim (start_cases forms top entries first p id laid many here lower (k + 1) following c) [
     | inl s ↦ (elim (start_cases forms top entries first p id laid many here lower k begin b) [
@@ -185,20 +196,23 @@ module _ (forms : List FormView) (top : EntryId) (entries : List EntryId) (first
     ])
     | inr t ↦ (elim (start_cases forms top entries first p id laid many here lower k begin b) [
       | inl s ↦ (let end : length first ≡ k + 1 = omega (arith, many, t.0) in
-          let all : length entries ≡ begin + length (kids_of forms x) = dense.full k begin x (old_entry forms top entries first p id laid many here lower k x (old_within forms top entries first p id laid many here lower k begin s) a) s end in
+          let all : length entries ≡ begin + length (kids_of forms x) = dense.full k begin x
+          (old_entry forms top entries first p id laid many here lower k x (old_within forms top entries first p id laid many here lower k begin s) a) s end in
           omega (arith, all, t.1))
       | inr u ↦ absurd (omega (arith, t.0, u.0))
     ])
   ]
 
-  dense_full : (k begin : ℕ) (x : EntryId) → slice_get (entries ++ kids_of forms id) k ≡ Some x → slice_get (first ++ length entries ∷ []) k ≡ Some begin → length (first ++ length entries ∷ []) ≡ k + 1 → length (entries ++ kids_of forms id) ≡ begin + length (kids_of forms x)
+  dense_full : (k begin : ℕ) (x : EntryId) → slice_get (entries ++ kids_of forms id) k ≡ Some x → slice_get (first ++ length entries ∷ []) k ≡ Some begin
+      → length (first ++ length entries ∷ []) ≡ k + 1 → length (entries ++ kids_of forms id) ≡ begin + length (kids_of forms x)
   dense_full k begin x a b c =
       let n : length (first ++ length entries ∷ []) ≡ length first + 1 = length-append first (length entries ∷ []) in
       let m : length (entries ++ kids_of forms id) ≡ length entries + length (kids_of forms id) = length-append entries (kids_of forms id) in
       let at : k ≡ p = omega (arith, n, c, many) in
       elim (start_cases forms top entries first p id laid many here lower k begin b) [
         | inl s ↦ (let w : k < length first = slice_get_within first k begin s in absurd (omega (arith, w, at, many)))
-        | inr t ↦ (let own : length (kids_of forms id) ≡ length (kids_of forms x) = ap (λ (y : EntryId). length (kids_of forms y)) (own_id forms top entries first p id laid many here lower k x at a) in omega (arith, m, own, t.1))
+        | inr t ↦ (let own : length (kids_of forms id) ≡ length (kids_of forms x) = ap (λ (y : EntryId). length (kids_of forms y))
+            (own_id forms top entries first p id laid many here lower k x at a) in omega (arith, m, own, t.1))
       ]
 
   dense_alone : length (first ++ length entries ∷ []) ≡ 0 → length (entries ++ kids_of forms id) ≡ 1
@@ -243,7 +257,8 @@ laid_step h top entries next first start p id legal under many here e f =
     } in
     subst (λ xs. IsUnder h.entries top next xs) (sym f) (subst (λ xs. IsUnder h.entries top xs (first ++ length entries ∷ [])) (sym e) more)
 
-pub laid_all : (forms : List FormView) (top : EntryId) (entries : List EntryId) (first : List ℕ) (p : ℕ) → IsUnder forms top entries first → length first ≡ p → None ≡ slice_get entries p → IsLayout forms top (record { entries = entries; first = first })
+pub laid_all : (forms : List FormView) (top : EntryId) (entries : List EntryId) (first : List ℕ) (p : ℕ) → IsUnder forms top entries first → length first ≡ p
+    → None ≡ slice_get entries p → IsLayout forms top (record { entries = entries; first = first })
 laid_all forms top entries first p under many e = record {
   laid = under.laid;
   dense = under.dense;

@@ -43,7 +43,8 @@ module _ (forms : List FormView) (top : EntryId) (l : Layout) (lay : IsLayout fo
   pub within : (path : List ℕ) (p : ℕ) → place forms l path ≡ Some p → p < length l.entries
   within path p e = let x = entry_placed path p e in slice_get_within l.entries p x.0 x.1
 
-  pub step : (path : List ℕ) (p i begin : ℕ) (id kid : EntryId) → place forms l path ≡ Some p → slice_get l.entries p ≡ Some id → slice_get l.first p ≡ Some begin → slice_get (kids_of forms id) i ≡ Some kid → place forms l (i ∷ path) ≡ Some (begin + i)
+  pub step : (path : List ℕ) (p i begin : ℕ) (id kid : EntryId) → place forms l path ≡ Some p → slice_get l.entries p ≡ Some id → slice_get l.first p ≡ Some begin
+      → slice_get (kids_of forms id) i ≡ Some kid → place forms l (i ∷ path) ≡ Some (begin + i)
   step path p i begin id kid e a b c = ap (λ o. kid_place forms l o i) e ∙ place_of forms (slice_get l.entries p) (slice_get l.first p) i begin id kid a b c
 
   below_it : (path : List ℕ) (i q : ℕ) (b : IsBelow forms l path i q) → b.p < q
@@ -106,7 +107,8 @@ module _ (h : History) (legal : IsLegal h) (top : EntryId) (l : Layout) (lay : I
   form_of : (p : ℕ) (id : EntryId) → slice_get l.entries p ≡ Some id → (form : FormView) × (slice_get h.entries id.0 ≡ Some form)
   form_of p id e = some_at h.entries id.0 (lay.laid.known p id e)
 
-  kid_unfolds : (id kid_id : EntryId) (form : FormView) (i : ℕ) → slice_get h.entries id.0 ≡ Some form → slice_get (kids_of h.entries id) i ≡ Some kid_id → kid (unfolding_of h.entries id) i ≡ unfolding_of h.entries kid_id
+  kid_unfolds : (id kid_id : EntryId) (form : FormView) (i : ℕ) → slice_get h.entries id.0 ≡ Some form → slice_get (kids_of h.entries id) i ≡ Some kid_id
+      → kid (unfolding_of h.entries id) i ≡ unfolding_of h.entries kid_id
   kid_unfolds id kid_id form i q k =
       let own : slice_get form.kids i ≡ Some kid_id = ap (λ ks. slice_get ks i) (sym (kids_are h.entries id form q)) ∙ k in
       ap (λ t. kid t i) (unfolds h legal id form q) ∙ ap (kid_tree (unfolded h legal)) own
@@ -123,7 +125,8 @@ module _ (h : History) (legal : IsLegal h) (top : EntryId) (l : Layout) (lay : I
         ap (λ t. kid t i) (x.2 ∙ ap (unfolding_of h.entries) same) ∙ kid_unfolds b.own.id b.own.kid form.0 i form.1 b.own.kid_is,
       )
 
-  pub graphs : (path : List ℕ) (p : ℕ) → place h.entries l path ≡ Some p → (id : EntryId) × (form : FormView) × (slice_get l.entries p ≡ Some id) × (slice_get h.entries id.0 ≡ Some form) × (graph_at (unfolding_of h.entries top) path ≡ form.circuit)
+  pub graphs : (path : List ℕ) (p : ℕ) → place h.entries l path ≡ Some p
+      → (id : EntryId) × (form : FormView) × (slice_get l.entries p ≡ Some id) × (slice_get h.entries id.0 ≡ Some form) × (graph_at (unfolding_of h.entries top) path ≡ form.circuit)
   graphs path p e =
       let x = trees path p e in
       let form = form_of p x.0 x.1 in
@@ -144,14 +147,16 @@ module _ (h : History) (legal : IsLegal h) (top : EntryId) (l : Layout) (lay : I
       let begin = some_at l.first up.0 many in
       (begin.0 + i, step h.entries top l lay path up.0 i begin.0 x.0 own.0 up.1 x.2 begin.1 (ap (λ ks. slice_get ks i) (kids_are h.entries x.0 x.1 x.3) ∙ own.1))
 
-  pub only : ((g : Graph) (i : ℕ) → IsCanonical g → i < length g.instances → Reached g (inst i)) → (path : List ℕ) (p : ℕ) → place h.entries l path ≡ Some p → IsReachedPath (unfolding_of h.entries top) path
+  pub only : ((g : Graph) (i : ℕ) → IsCanonical g → i < length g.instances → Reached g (inst i)) → (path : List ℕ) (p : ℕ) → place h.entries l path ≡ Some p
+      → IsReachedPath (unfolding_of h.entries top) path
   only law [] p e = tt
   only law (i ∷ path) p e =
       let b = below h.entries l path i p e in
       let x = graphs path b.p b.above in
       let is : IsForm x.1 = legal.forms x.0.0 x.1 x.3 in
       let same : b.own.id ≡ x.0 = some_once (sym b.own.entry_is ∙ x.2) in
-      let own : slice_get x.1.kids i ≡ Some b.own.kid = ap (λ ks. slice_get ks i) (sym (kids_are h.entries x.0 x.1 x.3)) ∙ ap (λ (y : EntryId). slice_get (kids_of h.entries y) i) (sym same) ∙ b.own.kid_is in
+      let own : slice_get x.1.kids i ≡ Some b.own.kid = ap (λ ks. slice_get ks i) (sym (kids_are h.entries x.0 x.1 x.3)) ∙ ap (λ (y : EntryId). slice_get (kids_of h.entries y) i)
+      (sym same) ∙ b.own.kid_is in
       let has : i < length x.1.kids = slice_get_within x.1.kids i b.own.kid own in
       let inside : i < length x.1.circuit.instances = omega (arith, has, is.kids) in
       (only law path b.p b.above, subst (λ g. Reached g (inst i)) (sym x.4) (law x.1.circuit i is.canonical inside))

@@ -155,7 +155,8 @@ module _ (forms : List FormView) (plans : List PlanView) (top : EntryId) (l : La
       last : q ≡ length up → slice_get (row_at more q) b ≡ Some (runner more k (ran_in (slice_get plans x.0) j b) (number_of more q b))
       last c =
           let f' : kid_place forms l (Some k) j ≡ Some (length up) = f ∙ ap Some c in
-          let s : (p ≡ k) × (i ≡ j) = same_parent forms top l lay p k i j (length up) (own_of forms (slice_get l.entries p) (slice_get l.first p) i (length up) own) (own_of forms (slice_get l.entries k) (slice_get l.first k) j (length up) f') in
+          let s : (p ≡ k) × (i ≡ j) = same_parent forms top l lay p k i j (length up) (own_of forms (slice_get l.entries p) (slice_get l.first p) i (length up) own)
+          (own_of forms (slice_get l.entries k) (slice_get l.first k) j (length up) f') in
           let y : id ≡ x = some_once (sym here ∙ ap (slice_get l.entries) s.0 ∙ e) in
           let z : row_at more q ≡ row = ap (row_at more) c ∙ row_last up row in
           let v : b < length row = subst (λ it. b < length it) z w in
@@ -179,14 +180,16 @@ module _ (forms : List FormView) (plans : List PlanView) (top : EntryId) (l : La
           let listed : slice_get row b ≡ Some (runner up p (ran_in (slice_get plans id.0) i (0 + b)) (length (flat up) + (0 + b))) =
           slice_listed (λ (n : ℕ). runner up p (ran_in (slice_get plans id.0) i n) (length (flat up) + n)) 0 (length (parts_of plans kid)) b inside in
           let v : runner up p (ran_in (slice_get plans id.0) i (0 + b)) (length (flat up) + (0 + b)) ≡ u = some_once (sym listed ∙ g) in
-          let bound : runner up p (ran_in (slice_get plans id.0) i (0 + b)) (length (flat up) + (0 + b)) ≤ length (flat up) + (0 + b) = runner_below up p (ran_in (slice_get plans id.0) i (0 + b)) (0 + b) in
+          let bound : runner up p (ran_in (slice_get plans id.0) i (0 + b)) (length (flat up) + (0 + b)) ≤ length (flat up) + (0 + b) = runner_below up p
+          (ran_in (slice_get plans id.0) i (0 + b)) (0 + b) in
           omega (arith, v, bound, f)
 
   pub runners_more : AreRunners forms plans l more
   runners_more = record { few = new_few; parts = new_parts; top = new_top; runners = new_runners; lower = new_lower }
 
 -- the row of the top
-pub runners_top : (forms : List FormView) (plans : List PlanView) (top : EntryId) (l : Layout) (up : List (List ℕ)) → IsLayout forms top l → up ≡ range_with_len 0 (length (parts_of plans top)) ∷ [] → AreRunners forms plans l up
+pub runners_top : (forms : List FormView) (plans : List PlanView) (top : EntryId) (l : Layout) (up : List (List ℕ)) → IsLayout forms top l
+    → up ≡ range_with_len 0 (length (parts_of plans top)) ∷ [] → AreRunners forms plans l up
 runners_top forms plans top l up lay e = subst (λ it. AreRunners forms plans l it) (sym e) one
   where
     row0 : List ℕ
@@ -234,7 +237,8 @@ next_first forms top l lay = record {
   ends = λ e. (let w : 0 < length l.entries = slice_get_within l.entries 0 top lay.laid.root in absurd (omega (arith, w, e)));
 }
 
-pub next_more : (forms : List FormView) (top : EntryId) (l : Layout) (p n m : ℕ) → IsLayout forms top l → p < length l.entries → slice_get l.first p ≡ Some n → ((id : EntryId) → slice_get l.entries p ≡ Some id → m ≡ n + length (kids_of forms id)) → IsNext l (p + 1) m
+pub next_more : (forms : List FormView) (top : EntryId) (l : Layout) (p n m : ℕ) → IsLayout forms top l → p < length l.entries → slice_get l.first p ≡ Some n
+    → ((id : EntryId) → slice_get l.entries p ≡ Some id → m ≡ n + length (kids_of forms id)) → IsNext l (p + 1) m
 next_more forms top l p n m lay h s f = record { begins = begins'; ends = ends' }
   where
     here : (id : EntryId) × (slice_get l.entries p ≡ Some id)
@@ -281,7 +285,8 @@ kid_all up plan p i b n xs e f = e ∙ ap (λ (m : ℕ). map (λ k. runner up p 
 
 -- one own instance more
 pub kid_pushed : (forms : List FormView) (plans : List PlanView) (top : EntryId) (l : Layout) (up next : List (List ℕ)) (p i x begin : ℕ) (id kid : EntryId) (form : FormView) (ks : List EntryId)
-    → IsLayout forms top l → AreRunners forms plans l up → slice_get l.entries p ≡ Some id → slice_get l.first p ≡ Some begin → slice_get forms id.0 ≡ Some form → ks ≡ form.kids → slice_get ks i ≡ Some kid → length up ≡ begin + i → x ≡ i
+    → IsLayout forms top l → AreRunners forms plans l up → slice_get l.entries p ≡ Some id → slice_get l.first p ≡ Some begin → slice_get forms id.0 ≡ Some form → ks ≡ form.kids
+    → slice_get ks i ≡ Some kid → length up ≡ begin + i → x ≡ i
     → next ≡ up ++ runners_of plans up p id x kid ∷ [] → AreRunners forms plans l next
 kid_pushed forms plans top l up next p i x begin id kid form ks lay are here first found own at many same e =
     let kid_is : slice_get (kids_of forms id) i ≡ Some kid = ap (λ it. slice_get it i) (kids_are forms id form found ∙ sym own) ∙ at in
@@ -299,7 +304,8 @@ kids_pushed forms n i ids id other form ks p len a b found own e f =
     let many : length (kids_of forms other) ≡ length ks = ap (λ (y : EntryId). length (kids_of forms y)) (sym same) ∙ ap length (kids_are forms id form found ∙ sym own) in
     omega (arith, many, e, f)
 
-pub begun : (forms : List FormView) (plans : List PlanView) (top : EntryId) (l : Layout) (was up : List (List ℕ)) (row items : List ℕ) → IsLayout forms top l → up ≡ was ++ row ∷ [] → was ≡ [] → row ≡ items → items ≡ range_with_len 0 (length (parts_of plans top))
+pub begun : (forms : List FormView) (plans : List PlanView) (top : EntryId) (l : Layout) (was up : List (List ℕ)) (row items : List ℕ) → IsLayout forms top l
+    → up ≡ was ++ row ∷ [] → was ≡ [] → row ≡ items → items ≡ range_with_len 0 (length (parts_of plans top))
     → AreRunners forms plans l up × IsNext l 0 (length up)
 begun forms plans top l was up row items lay e f g h =
     let all : up ≡ range_with_len 0 (length (parts_of plans top)) ∷ [] = e ∙ ap (λ it. it ++ row ∷ []) f ∙ ap (λ it. it ∷ []) (g ∙ h) in

@@ -40,17 +40,20 @@ pub record IsLaid (forms : List FormView) (top : EntryId) (l : Layout) : Type 0 
   pub root : slice_get l.entries 0 ≡ Some top
   pub few : length l.first ≤ length l.entries
   pub known : (p : ℕ) (id : EntryId) → slice_get l.entries p ≡ Some id → id.0 < length forms
-  pub own : (p i begin : ℕ) (id kid : EntryId) → slice_get l.entries p ≡ Some id → slice_get l.first p ≡ Some begin → slice_get (kids_of forms id) i ≡ Some kid → slice_get l.entries (begin + i) ≡ Some kid
+  pub own : (p i begin : ℕ) (id kid : EntryId) → slice_get l.entries p ≡ Some id → slice_get l.first p ≡ Some begin → slice_get (kids_of forms id) i ≡ Some kid
+      → slice_get l.entries (begin + i) ≡ Some kid
   pub behind : (p begin : ℕ) → slice_get l.first p ≡ Some begin → p < begin
   pub within : (p begin : ℕ) (id : EntryId) → slice_get l.entries p ≡ Some id → slice_get l.first p ≡ Some begin → begin + length (kids_of forms id) ≤ length l.entries
-  pub apart : (p q begin next : ℕ) (id : EntryId) → slice_get l.entries p ≡ Some id → slice_get l.first p ≡ Some begin → slice_get l.first q ≡ Some next → p < q → begin + length (kids_of forms id) ≤ next
+  pub apart : (p q begin next : ℕ) (id : EntryId) → slice_get l.entries p ≡ Some id → slice_get l.first p ≡ Some begin → slice_get l.first q ≡ Some next → p < q
+      → begin + length (kids_of forms id) ≤ next
   pub others : (q : ℕ) → 0 < q → q < length l.entries → (p : ℕ) × (i : ℕ) × (kid_place forms l (Some p) i ≡ Some q)
 
 -- The own instances of each begin right behind those of the one before.
 pub record IsDense (forms : List FormView) (l : Layout) : Type 0 where
   pub alone : length l.first ≡ 0 → length l.entries ≡ 1
   pub start : (begin : ℕ) → slice_get l.first 0 ≡ Some begin → begin ≡ 1
-  pub next : (p begin following : ℕ) (id : EntryId) → slice_get l.entries p ≡ Some id → slice_get l.first p ≡ Some begin → slice_get l.first (p + 1) ≡ Some following → following ≡ begin + length (kids_of forms id)
+  pub next : (p begin following : ℕ) (id : EntryId) → slice_get l.entries p ≡ Some id → slice_get l.first p ≡ Some begin → slice_get l.first (p + 1) ≡ Some following
+      → following ≡ begin + length (kids_of forms id)
   pub full : (p begin : ℕ) (id : EntryId) → slice_get l.entries p ≡ Some id → slice_get l.first p ≡ Some begin → length l.first ≡ p + 1 → length l.entries ≡ begin + length (kids_of forms id)
 
 -- All instances of the unfolding are numbered.

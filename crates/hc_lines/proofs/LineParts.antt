@@ -123,7 +123,8 @@ minus_sound : (d : ℕ) (ts rest : Tokens) (v : BenchValue) → r.minus_value ts
 minus_sound d [] rest v e = absurd cc
 minus_sound d (Int z ∷ ts) rest v e =
     let c = cond-some (int_le (pos 0) z) (got (value.Plain (neg_ℤ z)) ts) (v, rest) e in
-    moved IsValue d (Operator num_op.Sub ∷ Int z ∷ ts) ts rest (value.Plain (neg_ℤ z)) v c.1 (alone IsValue (Operator num_op.Sub ∷ Int z ∷ []) (λ o. (refl, omega arith)) d (Operator num_op.Sub ∷ Int z ∷ ts) ts (value.Plain (neg_ℤ z)) refl (g.minus z c.0))
+    moved IsValue d (Operator num_op.Sub ∷ Int z ∷ ts) ts rest (value.Plain (neg_ℤ z)) v c.1
+    (alone IsValue (Operator num_op.Sub ∷ Int z ∷ []) (λ o. (refl, omega arith)) d (Operator num_op.Sub ∷ Int z ∷ ts) ts (value.Plain (neg_ℤ z)) refl (g.minus z c.0))
 minus_sound d (Word w ∷ ts) rest v e = absurd cc
 minus_sound d (Sized w u ∷ ts) rest v e = absurd cc
 minus_sound d (Operator w ∷ ts) rest v e = absurd cc
@@ -132,7 +133,8 @@ minus_sound d (Mark w ∷ ts) rest v e = absurd cc
 value_sound : (d : ℕ) → Sound IsValue d r.value_of
 value_sound d [] rest v e = absurd cc
 value_sound d (Int z ∷ ts) rest v e = moved IsValue d (Int z ∷ ts) ts rest (value.Plain z) v e (alone IsValue (Int z ∷ []) (λ o. (refl, omega arith)) d (Int z ∷ ts) ts (value.Plain z) refl (g.plus z))
-value_sound d (Sized w u ∷ ts) rest v e = moved IsValue d (Sized w u ∷ ts) ts rest (value.Sized w u) v e (alone IsValue (Sized w u ∷ []) (λ o. (refl, omega arith)) d (Sized w u ∷ ts) ts (value.Sized w u) refl (g.sized w u))
+value_sound d (Sized w u ∷ ts) rest v e = moved IsValue d (Sized w u ∷ ts) ts rest (value.Sized w u) v e
+    (alone IsValue (Sized w u ∷ []) (λ o. (refl, omega arith)) d (Sized w u ∷ ts) ts (value.Sized w u) refl (g.sized w u))
 value_sound d (Operator num_op.Sub ∷ ts) rest v e = minus_sound d ts rest v e
 value_sound d (Operator num_op.Add ∷ ts) rest v e = absurd cc
 value_sound d (Operator num_op.Mul ∷ ts) rest v e = absurd cc

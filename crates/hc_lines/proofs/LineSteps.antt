@@ -5,7 +5,8 @@ use Rattle.hc_tokens.specs.Reading.{Read, go_on, choose}
 use Rattle.hc_lines.specs.LineReading.{items}
 
 -- one turn of a loop over items
-pub items-goes : {A : Type 0} (stop : Tokens → Option Tokens) (item : Read A) (k : ℕ) (xs : List A) (x : A) (ts more : Tokens) → (k ≡ 0 → ⊥) → stop ts ≡ None → item ts ≡ Some (x, more) → items stop item k xs ts ≡ items stop item (k - 1) (xs ++ x ∷ []) more
+pub items-goes : {A : Type 0} (stop : Tokens → Option Tokens) (item : Read A) (k : ℕ) (xs : List A) (x : A) (ts more : Tokens) → (k ≡ 0 → ⊥) → stop ts ≡ None
+    → item ts ≡ Some (x, more) → items stop item k xs ts ≡ items stop item (k - 1) (xs ++ x ∷ []) more
 unfolding items
 items-goes stop item zero xs x ts more some none e = absurd (some refl)
 items-goes stop item (suc k) xs x ts more some none e =

@@ -69,19 +69,24 @@ RegRest = Then IsSig RegTail
 reg_all : Last (Then IsIdent RegRest) (λ d. seq (ident_at d) (seq (signal_at d) (r.reg_parts d)))
 reg_all = then_last IsIdent RegRest ident_at (λ d. seq (signal_at d) (r.reg_parts d)) ident_part (then_last IsSig RegTail signal_at r.reg_parts sig_part reg_last)
 
-pub reg_found : (ts us es cs ns : Tokens) (i : IdentText) (s : Sig) (e : Option Sig) (c : Option (Sig × Num)) (n : Option Num) → IsIdent ts i → IsSig us s → IsEnable es e → IsClear cs c → IsInit ns n → Found key.Reg (ts ++ (us ++ (es ++ (cs ++ ns)))) (g.Simple (what.Reg i s e c n))
+pub reg_found : (ts us es cs ns : Tokens) (i : IdentText) (s : Sig) (e : Option Sig) (c : Option (Sig × Num)) (n : Option Num) → IsIdent ts i → IsSig us s → IsEnable es e
+    → IsClear cs c → IsInit ns n → Found key.Reg (ts ++ (us ++ (es ++ (cs ++ ns)))) (g.Simple (what.Reg i s e c n))
 unfolding r.line_by r.reg_line
-reg_found ts us es cs ns i s e c n h k x y z d l = line_found (Then IsIdent RegRest) (λ d. seq (ident_at d) (seq (signal_at d) (r.reg_parts d))) reg_all (λ p. g.Simple (what.Reg p.0 p.1.0 p.1.1.0 p.1.1.1.0 p.1.1.1.1)) (ts ++ (us ++ (es ++ (cs ++ ns)))) (i, (s, (e, (c, n)))) (ts, us ++ (es ++ (cs ++ ns)), refl, h, (us, es ++ (cs ++ ns), refl, k, (es, cs ++ ns, refl, enable_part x, (cs, ns, refl, clear_part y, init_part z)))) d 0 (omega arith)
+reg_found ts us es cs ns i s e c n h k x y z d l = line_found (Then IsIdent RegRest) (λ d. seq (ident_at d) (seq (signal_at d) (r.reg_parts d))) reg_all
+    (λ p. g.Simple (what.Reg p.0 p.1.0 p.1.1.0 p.1.1.1.0 p.1.1.1.1)) (ts ++ (us ++ (es ++ (cs ++ ns)))) (i, (s, (e, (c, n))))
+    (ts, us ++ (es ++ (cs ++ ns)), refl, h, (us, es ++ (cs ++ ns), refl, k, (es, cs ++ ns, refl, enable_part x, (cs, ns, refl, clear_part y, init_part z)))) d 0 (omega arith)
 
 pub reg_sound : (d : ℕ) (ts : Tokens) (l : Line) → line_by key.Reg d ts ≡ Some l → Spelled key.Reg d ts l
 unfolding r.line_by r.reg_line
 reg_sound d ts l e =
     let s = line_sound (Then IsIdent RegRest) (λ d. seq (ident_at d) (seq (signal_at d) (r.reg_parts d))) reg_all (λ p. g.Simple (what.Reg p.0 p.1.0 p.1.1.0 p.1.1.1.0 p.1.1.1.1)) d ts l e in
     let q : Line = g.Simple (what.Reg s.0.0 s.0.1.0 s.0.1.1.0 s.0.1.1.1.0 s.0.1.1.1.1) in (
-      subst (λ x. IsForm (Word (written key.Reg) ∷ ts) x) s.1 (then_elim IsIdent RegRest (λ us. IsForm (Word (written key.Reg) ∷ us) (g.Simple (what.Reg s.0.0 s.0.1.0 s.0.1.1.0 s.0.1.1.1.0 s.0.1.1.1.1))) ts s.0 s.2 (λ xs ys x y.
+      subst (λ x. IsForm (Word (written key.Reg) ∷ ts) x) s.1 (then_elim IsIdent RegRest
+          (λ us. IsForm (Word (written key.Reg) ∷ us) (g.Simple (what.Reg s.0.0 s.0.1.0 s.0.1.1.0 s.0.1.1.1.0 s.0.1.1.1.1))) ts s.0 s.2 (λ xs ys x y.
           then_elim IsSig RegTail (λ us. IsForm (Word (written key.Reg) ∷ (xs ++ us)) (g.Simple (what.Reg s.0.0 s.0.1.0 s.0.1.1.0 s.0.1.1.1.0 s.0.1.1.1.1))) ys s.0.1 y (λ us vs k j.
           then_elim EnablePart ClearParts (λ ws. IsForm (Word (written key.Reg) ∷ (xs ++ (us ++ ws))) (g.Simple (what.Reg s.0.0 s.0.1.0 s.0.1.1.0 s.0.1.1.1.0 s.0.1.1.1.1))) vs s.0.1.1 j (λ es fs m o.
-          then_elim ClearPart InitPart (λ ws. IsForm (Word (written key.Reg) ∷ (xs ++ (us ++ (es ++ ws)))) (g.Simple (what.Reg s.0.0 s.0.1.0 s.0.1.1.0 s.0.1.1.1.0 s.0.1.1.1.1))) fs s.0.1.1.1 o (λ cs ns v w.
+          then_elim ClearPart InitPart (λ ws. IsForm (Word (written key.Reg) ∷ (xs ++ (us ++ (es ++ ws)))) (g.Simple (what.Reg s.0.0 s.0.1.0 s.0.1.1.0 s.0.1.1.1.0 s.0.1.1.1.1))) fs
+          s.0.1.1.1 o (λ cs ns v w.
           g.simple (g.reg_line x k (part_enable s.0.1.1.0 es m) (part_clear s.0.1.1.1.0 cs v) (part_init s.0.1.1.1.1 ns w))))))),
       s.3,
     )
@@ -125,7 +130,8 @@ colon-some (Mark mark.Dot ∷ ts) rest e = absurd cc
 abbrev IsConn : Tokens → Text × Sig → Type 0
 IsConn ts p = (us : Tokens) × (ts ≡ Word p.0 ∷ Mark mark.Equals ∷ us) × IsName p.0 × IsSig us p.1
 
-conn_found : (us rest : Tokens) (p : Text) (s : Sig) → IsName p → IsSig us s → (d o : ℕ) → most_open o us ≤ o + d → ends_sig rest ≡ true → r.conn d (Word p ∷ Mark mark.Equals ∷ (us ++ rest)) ≡ Some ((p, s), rest)
+conn_found : (us rest : Tokens) (p : Text) (s : Sig) → IsName p → IsSig us s → (d o : ℕ) → most_open o us ≤ o + d → ends_sig rest ≡ true
+    → r.conn d (Word p ∷ Mark mark.Equals ∷ (us ++ rest)) ≡ Some ((p, s), rest)
 conn_found us rest p s n h d o l e =
     ap (λ b. go_on (cond b (got p (Mark mark.Equals ∷ (us ++ rest))) None) (λ p left. bind (past_equals left) (λ more. go_on (signal_at d more) (λ s end. Some ((p, s), end))))) n
     ∙ ap (λ x. go_on x (λ s end. Some ((p, s), end))) (sig_found h d o l rest e)
@@ -135,11 +141,13 @@ conn_sound d ts rest c e =
     let p = go_on-some (r.name ts) (λ p left. bind (past_equals left) (λ more. go_on (signal_at d more) (λ s end. Some ((p, s), end)))) (c, rest) e in
     let q = bind-some (past_equals p.0.1) (λ more. go_on (signal_at d more) (λ s end. Some ((p.0.0, s), end))) (c, rest) p.2 in
     let t = go_on-some (signal_at d q.0) (λ s end. Some ((p.0.0, s), end)) (c, rest) q.2 in
-    moved IsConn d ts t.0.1 rest (p.0.0, t.0.0) c t.2 (joined Named IsSig IsConn (Mark mark.Equals ∷ []) (λ o. (refl, omega arith)) d ts p.0.1 q.0 t.0.1 p.0.0 t.0.0 (p.0.0, t.0.0) (equals-some p.0.1 q.0 q.1) (λ xs ys x y. (ys, ap (λ us. us ++ (Mark mark.Equals ∷ ys)) x.0, x.1, y)) (name_part.sound d ts p.0.1 p.0.0 p.1) (signal_sound d q.0 t.0.1 t.0.0 t.1))
+    moved IsConn d ts t.0.1 rest (p.0.0, t.0.0) c t.2 (joined Named IsSig IsConn (Mark mark.Equals ∷ []) (λ o. (refl, omega arith)) d ts p.0.1 q.0 t.0.1 p.0.0 t.0.0 (p.0.0, t.0.0)
+    (equals-some p.0.1 q.0 q.1) (λ xs ys x y. (ys, ap (λ us. us ++ (Mark mark.Equals ∷ ys)) x.0, x.1, y)) (name_part.sound d ts p.0.1 p.0.0 p.1) (signal_sound d q.0 t.0.1 t.0.0 t.1))
 
 conn_part : Part IsConn r.conn
 conn_part = record {
-  found = λ ts c h d o l rest e. ap (λ us. r.conn d (us ++ rest)) h.1 ∙ conn_found h.0 rest c.0 c.1 h.2 h.3 d o (let l' : most_open o (Word c.0 ∷ Mark mark.Equals ∷ h.0) ≤ o + d = subst (λ us. most_open o us ≤ o + d) h.1 l in omega arith) e;
+  found = λ ts c h d o l rest e. ap (λ us. r.conn d (us ++ rest)) h.1 ∙ conn_found h.0 rest c.0 c.1 h.2 h.3 d o
+      (let l' : most_open o (Word c.0 ∷ Mark mark.Equals ∷ h.0) ≤ o + d = subst (λ us. most_open o us ≤ o + d) h.1 l in omega arith) e;
   sound = conn_sound;
   even = λ ts c h o. subst (λ us. open_after o us ≡ o) (sym h.1) (sig_even h.3 o);
   starts = λ ts c h rest e. subst (λ us. ends_sig (us ++ rest) ≡ true) (sym h.1) refl;
@@ -178,11 +186,13 @@ atoms_even (n ∷ ns) ts h o = subst (λ us. open_after o us ≡ o) (sym h.2) (R
 abbrev args_at : ℕ → Tokens → Option ((List Num × List (Text × Sig)) × Tokens)
 args_at d = seq (all_items past_colon (atom_at d)) (all_items past_end (r.conn d))
 
-args_found : (us vs : Tokens) (ns : List Num) (cs : List (Text × Sig)) → AreItems IsAtom us ns → AreItems IsConn vs cs → (d o : ℕ) → most_open o (us ++ (Mark mark.Colon ∷ vs)) ≤ o + d → args_at d (us ++ (Mark mark.Colon ∷ vs)) ≡ Some ((ns, cs), [])
+args_found : (us vs : Tokens) (ns : List Num) (cs : List (Text × Sig)) → AreItems IsAtom us ns → AreItems IsConn vs cs → (d o : ℕ)
+    → most_open o (us ++ (Mark mark.Colon ∷ vs)) ≤ o + d → args_at d (us ++ (Mark mark.Colon ∷ vs)) ≡ Some ((ns, cs), [])
 args_found us vs ns cs h k d o l =
     let inner : most_open o (Mark mark.Colon ∷ vs) ≤ o + d = right_open us (Mark mark.Colon ∷ vs) o (o + d) (atoms_even ns us h o) l in
     let l2 : most_open o vs ≤ o + d = omega arith in
-    ap (λ q. go_on q (λ a left. go_on (all_items past_end (r.conn d) left) (λ b end. Some ((a, b), end)))) (all_found IsAtom atom_at atom_part past_colon no_colon atom_long ns us (Mark mark.Colon ∷ vs) vs h refl refl d o (left_open us (Mark mark.Colon ∷ vs) o (o + d) l))
+    ap (λ q. go_on q (λ a left. go_on (all_items past_end (r.conn d) left) (λ b end. Some ((a, b), end))))
+    (all_found IsAtom atom_at atom_part past_colon no_colon atom_long ns us (Mark mark.Colon ∷ vs) vs h refl refl d o (left_open us (Mark mark.Colon ∷ vs) o (o + d) l))
     ∙ ap (λ q. go_on q (λ b end. Some ((ns, b), end))) (conns_last.found vs cs k d o l2)
 
 args_sound : (d : ℕ) → Sound Args d (args_at d)
@@ -191,11 +201,13 @@ args_sound d ts rest p e =
     let t = go_on-some (all_items past_end (r.conn d) s.0.1) (λ b end. Some ((s.0.0, b), end)) (p, rest) s.2 in
     let k = all_took IsAtom atom_at atom_part past_colon no_colon atom_long d ts s.0.1 s.0.0 s.1 in
     let front : Front (AreItems IsAtom) d ts s.0.0 k.1 = subst (λ x. Front (AreItems IsAtom) d ts x k.1) (sym k.2) k.4 in
-    moved Args d ts t.0.1 rest (s.0.0, t.0.0) p t.2 (joined (AreItems IsAtom) (AreItems IsConn) Args (Mark mark.Colon ∷ []) (λ o. (refl, omega arith)) d ts k.1 s.0.1 t.0.1 s.0.0 t.0.0 (s.0.0, t.0.0) (colon-some k.1 s.0.1 k.3) (λ xs ys x y. (xs, ys, refl, x, y)) front (conns_last.sound d s.0.1 t.0.1 t.0.0 t.1))
+    moved Args d ts t.0.1 rest (s.0.0, t.0.0) p t.2 (joined (AreItems IsAtom) (AreItems IsConn) Args (Mark mark.Colon ∷ [])
+    (λ o. (refl, omega arith)) d ts k.1 s.0.1 t.0.1 s.0.0 t.0.0 (s.0.0, t.0.0) (colon-some k.1 s.0.1 k.3) (λ xs ys x y. (xs, ys, refl, x, y)) front (conns_last.sound d s.0.1 t.0.1 t.0.0 t.1))
 
 args_start : (us vs : Tokens) (ns : List Num) → AreItems IsAtom us ns → ends_sig (us ++ (Mark mark.Colon ∷ vs)) ≡ true
 args_start us vs [] h = subst (λ x. ends_sig (x ++ (Mark mark.Colon ∷ vs)) ≡ true) (sym h) refl
-args_start us vs (n ∷ ns) h = subst (λ x. ends_sig (x ++ (Mark mark.Colon ∷ vs)) ≡ true) (sym h.2) (subst (λ x. ends_sig x ≡ true) (sym (append_assoc h.0 h.1 (Mark mark.Colon ∷ vs))) (atom_part.starts h.0 n h.3 (h.1 ++ (Mark mark.Colon ∷ vs)) (args_start h.1 vs ns h.4)))
+args_start us vs (n ∷ ns) h = subst (λ x. ends_sig (x ++ (Mark mark.Colon ∷ vs)) ≡ true) (sym h.2)
+    (subst (λ x. ends_sig x ≡ true) (sym (append_assoc h.0 h.1 (Mark mark.Colon ∷ vs))) (atom_part.starts h.0 n h.3 (h.1 ++ (Mark mark.Colon ∷ vs)) (args_start h.1 vs ns h.4)))
 
 args_last : Last Args args_at
 args_last = record {
@@ -210,21 +222,27 @@ InstRest = Then Named Args
 inst_all : Last (Then IsIdent InstRest) (λ d. seq (ident_at d) (seq r.name (args_at d)))
 inst_all = then_last IsIdent InstRest ident_at (λ d. seq r.name (args_at d)) ident_part (then_last Named Args (λ d. r.name) args_at name_part args_last)
 
-pub inst_found : (ts us vs : Tokens) (i : IdentText) (w : Text) (ns : List Num) (cs : List (Text × Sig)) → IsIdent ts i → IsName w → AreAtoms us ns → AreConns vs cs → Found key.Inst (ts ++ (Word w ∷ (us ++ (Mark mark.Colon ∷ vs)))) (g.Simple (what.Inst i w ns cs))
+pub inst_found : (ts us vs : Tokens) (i : IdentText) (w : Text) (ns : List Num) (cs : List (Text × Sig)) → IsIdent ts i → IsName w → AreAtoms us ns → AreConns vs cs
+    → Found key.Inst (ts ++ (Word w ∷ (us ++ (Mark mark.Colon ∷ vs)))) (g.Simple (what.Inst i w ns cs))
 unfolding r.line_by r.inst_line
-inst_found ts us vs i w ns cs h n k j d l = line_found (Then IsIdent InstRest) (λ d. seq (ident_at d) (seq r.name (args_at d))) inst_all (λ p. g.Simple (what.Inst p.0 p.1.0 p.1.1.0 p.1.1.1)) (ts ++ (Word w ∷ (us ++ (Mark mark.Colon ∷ vs)))) (i, (w, (ns, cs))) (ts, Word w ∷ (us ++ (Mark mark.Colon ∷ vs)), refl, h, (Word w ∷ [], us ++ (Mark mark.Colon ∷ vs), refl, (refl, n), (us, vs, refl, atoms_items k, conns_items j))) d 0 (omega arith)
+inst_found ts us vs i w ns cs h n k j d l = line_found (Then IsIdent InstRest) (λ d. seq (ident_at d) (seq r.name (args_at d))) inst_all
+    (λ p. g.Simple (what.Inst p.0 p.1.0 p.1.1.0 p.1.1.1)) (ts ++ (Word w ∷ (us ++ (Mark mark.Colon ∷ vs)))) (i, (w, (ns, cs)))
+    (ts, Word w ∷ (us ++ (Mark mark.Colon ∷ vs)), refl, h, (Word w ∷ [], us ++ (Mark mark.Colon ∷ vs), refl, (refl, n), (us, vs, refl, atoms_items k, conns_items j))) d 0 (omega arith)
 
-args_elim : (Goal : Tokens → Type 0) (ts : Tokens) (p : List Num × List (Text × Sig)) → Args ts p → ((us vs : Tokens) → AreItems IsAtom us p.0 → AreItems IsConn vs p.1 → Goal (us ++ (Mark mark.Colon ∷ vs))) → Goal ts
+args_elim : (Goal : Tokens → Type 0) (ts : Tokens) (p : List Num × List (Text × Sig)) → Args ts p
+    → ((us vs : Tokens) → AreItems IsAtom us p.0 → AreItems IsConn vs p.1 → Goal (us ++ (Mark mark.Colon ∷ vs))) → Goal ts
 args_elim Goal ts p h f = subst Goal (sym h.2) (f h.0 h.1 h.3 h.4)
 
 pub inst_sound : (d : ℕ) (ts : Tokens) (l : Line) → line_by key.Inst d ts ≡ Some l → Spelled key.Inst d ts l
 unfolding r.line_by r.inst_line
 inst_sound d ts l e =
     let s = line_sound (Then IsIdent InstRest) (λ d. seq (ident_at d) (seq r.name (args_at d))) inst_all (λ p. g.Simple (what.Inst p.0 p.1.0 p.1.1.0 p.1.1.1)) d ts l e in (
-      subst (λ x. IsForm (Word (written key.Inst) ∷ ts) x) s.1 (then_elim IsIdent InstRest (λ us. IsForm (Word (written key.Inst) ∷ us) (g.Simple (what.Inst s.0.0 s.0.1.0 s.0.1.1.0 s.0.1.1.1))) ts s.0 s.2 (λ xs ys x y.
+      subst (λ x. IsForm (Word (written key.Inst) ∷ ts) x) s.1 (then_elim IsIdent InstRest
+          (λ us. IsForm (Word (written key.Inst) ∷ us) (g.Simple (what.Inst s.0.0 s.0.1.0 s.0.1.1.0 s.0.1.1.1))) ts s.0 s.2 (λ xs ys x y.
           then_elim Named Args (λ us. IsForm (Word (written key.Inst) ∷ (xs ++ us)) (g.Simple (what.Inst s.0.0 s.0.1.0 s.0.1.1.0 s.0.1.1.1))) ys s.0.1 y (λ us vs n a.
           subst (λ z. IsForm (Word (written key.Inst) ∷ (xs ++ (z ++ vs))) (g.Simple (what.Inst s.0.0 s.0.1.0 s.0.1.1.0 s.0.1.1.1))) (sym n.0)
-          (args_elim (λ z. IsForm (Word (written key.Inst) ∷ (xs ++ (Word s.0.1.0 ∷ z))) (g.Simple (what.Inst s.0.0 s.0.1.0 s.0.1.1.0 s.0.1.1.1))) vs s.0.1.1 a (λ bs cs h k. g.simple (g.inst_line s.0.1.0 n.1 x (items_atoms s.0.1.1.0 bs h) (items_conns s.0.1.1.1 cs k))))))),
+          (args_elim (λ z. IsForm (Word (written key.Inst) ∷ (xs ++ (Word s.0.1.0 ∷ z))) (g.Simple (what.Inst s.0.0 s.0.1.0 s.0.1.1.0 s.0.1.1.1))) vs s.0.1.1 a
+          (λ bs cs h k. g.simple (g.inst_line s.0.1.0 n.1 x (items_atoms s.0.1.1.0 bs h) (items_conns s.0.1.1.1 cs k))))))),
       s.3,
     )
 
@@ -237,19 +255,24 @@ sig_last : Last IsSig signal_at
 sig_last = Rattle.hc_lines.proofs.Parts.ends IsSig signal_at sig_part
 
 write_all : Last (Then IsIdent WriteRest) (λ d. seq (ident_at d) (seq (signal_at d) (seq (signal_at d) (signal_at d))))
-write_all = then_last IsIdent WriteRest ident_at (λ d. seq (signal_at d) (seq (signal_at d) (signal_at d))) ident_part (then_last IsSig (Then IsSig IsSig) signal_at (λ d. seq (signal_at d) (signal_at d)) sig_part (then_last IsSig IsSig signal_at signal_at sig_part sig_last))
+write_all = then_last IsIdent WriteRest ident_at (λ d. seq (signal_at d) (seq (signal_at d) (signal_at d))) ident_part
+    (then_last IsSig (Then IsSig IsSig) signal_at (λ d. seq (signal_at d) (signal_at d)) sig_part (then_last IsSig IsSig signal_at signal_at sig_part sig_last))
 
 write_found : (ts us vs ws : Tokens) (i : IdentText) (e a v : Sig) → IsIdent ts i → IsSig us e → IsSig vs a → IsSig ws v → Found key.Write (ts ++ (us ++ (vs ++ ws))) (g.Simple (what.Write i e a v))
 unfolding r.line_by r.write_line r.write_parts r.two_signals
-write_found ts us vs ws i e a v h k j m d l = line_found (Then IsIdent WriteRest) (λ d. seq (ident_at d) (seq (signal_at d) (seq (signal_at d) (signal_at d)))) write_all (λ p. g.Simple (what.Write p.0 p.1.0 p.1.1.0 p.1.1.1)) (ts ++ (us ++ (vs ++ ws))) (i, (e, (a, v))) (ts, us ++ (vs ++ ws), refl, h, (us, vs ++ ws, refl, k, (vs, ws, refl, j, m))) d 0 (omega arith)
+write_found ts us vs ws i e a v h k j m d l = line_found (Then IsIdent WriteRest) (λ d. seq (ident_at d) (seq (signal_at d) (seq (signal_at d) (signal_at d)))) write_all
+    (λ p. g.Simple (what.Write p.0 p.1.0 p.1.1.0 p.1.1.1)) (ts ++ (us ++ (vs ++ ws))) (i, (e, (a, v))) (ts, us ++ (vs ++ ws), refl, h, (us, vs ++ ws, refl, k, (vs, ws, refl, j, m))) d 0 (omega arith)
 
 write_sound : (d : ℕ) (ts : Tokens) (l : Line) → line_by key.Write d ts ≡ Some l → Spelled key.Write d ts l
 unfolding r.line_by r.write_line r.write_parts r.two_signals
 write_sound d ts l e =
-    let s = line_sound (Then IsIdent WriteRest) (λ d. seq (ident_at d) (seq (signal_at d) (seq (signal_at d) (signal_at d)))) write_all (λ p. g.Simple (what.Write p.0 p.1.0 p.1.1.0 p.1.1.1)) d ts l e in (
-      subst (λ x. IsForm (Word (written key.Write) ∷ ts) x) s.1 (then_elim IsIdent WriteRest (λ us. IsForm (Word (written key.Write) ∷ us) (g.Simple (what.Write s.0.0 s.0.1.0 s.0.1.1.0 s.0.1.1.1))) ts s.0 s.2 (λ xs ys x y.
+    let s = line_sound (Then IsIdent WriteRest) (λ d. seq (ident_at d) (seq (signal_at d) (seq (signal_at d) (signal_at d)))) write_all
+    (λ p. g.Simple (what.Write p.0 p.1.0 p.1.1.0 p.1.1.1)) d ts l e in (
+      subst (λ x. IsForm (Word (written key.Write) ∷ ts) x) s.1 (then_elim IsIdent WriteRest
+          (λ us. IsForm (Word (written key.Write) ∷ us) (g.Simple (what.Write s.0.0 s.0.1.0 s.0.1.1.0 s.0.1.1.1))) ts s.0 s.2 (λ xs ys x y.
           then_elim IsSig (Then IsSig IsSig) (λ us. IsForm (Word (written key.Write) ∷ (xs ++ us)) (g.Simple (what.Write s.0.0 s.0.1.0 s.0.1.1.0 s.0.1.1.1))) ys s.0.1 y (λ us vs k j.
-          then_elim IsSig IsSig (λ z. IsForm (Word (written key.Write) ∷ (xs ++ (us ++ z))) (g.Simple (what.Write s.0.0 s.0.1.0 s.0.1.1.0 s.0.1.1.1))) vs s.0.1.1 j (λ as_ bs m n. g.simple (g.write_line x k m n))))),
+          then_elim IsSig IsSig (λ z. IsForm (Word (written key.Write) ∷ (xs ++ (us ++ z))) (g.Simple (what.Write s.0.0 s.0.1.0 s.0.1.1.0 s.0.1.1.1))) vs s.0.1.1 j
+          (λ as_ bs m n. g.simple (g.write_line x k m n))))),
       s.3,
     )
 
@@ -266,10 +289,12 @@ simple_read (g.let_line {ts} {us} {i} {s} h k) = keyed_found key.Let (ts ++ us) 
 simple_read (g.wire_line {ts} {us} {i} {n} h k) = keyed_found key.Wire (ts ++ us) (g.Simple (what.Wire i n)) (l.wire_found ts us i n h k)
 simple_read (g.assign_line {ts} {us} {i} {s} h k) = keyed_found key.Assign (ts ++ us) (g.Simple (what.Assign i s)) (l.assign_found ts us i s h k)
 simple_read (g.label_line {ts} {i} w n h) = keyed_found key.Label (ts ++ (Word w ∷ [])) (g.Simple (what.Label i w)) (l.label_found ts i w h n)
-simple_read (g.reg_line {ts} {us} {es} {cs} {ns} {i} {s} {e} {c} {n} h k x y z) = keyed_found key.Reg (ts ++ (us ++ (es ++ (cs ++ ns)))) (g.Simple (what.Reg i s e c n)) (reg_found ts us es cs ns i s e c n h k x y z)
+simple_read (g.reg_line {ts} {us} {es} {cs} {ns} {i} {s} {e} {c} {n} h k x y z) = keyed_found key.Reg (ts ++ (us ++ (es ++ (cs ++ ns)))) (g.Simple (what.Reg i s e c n))
+    (reg_found ts us es cs ns i s e c n h k x y z)
 simple_read (g.memory_line {ts} {us} {vs} {i} {size = a} {width = b} h k j) = keyed_found key.Memory (ts ++ (us ++ vs)) (g.Simple (what.Memory i a b)) (l.memory_found ts us vs i a b h k j)
 simple_read (g.write_line {ts} {us} {vs} {ws} {i} {e} {a} {v} h k j m) = keyed_found key.Write (ts ++ (us ++ (vs ++ ws))) (g.Simple (what.Write i e a v)) (write_found ts us vs ws i e a v h k j m)
-simple_read (g.inst_line {ts} {us} {vs} {i} {args = ns} {conns = cs} w n h k j) = keyed_found key.Inst (ts ++ (Word w ∷ (us ++ (Mark mark.Colon ∷ vs)))) (g.Simple (what.Inst i w ns cs)) (inst_found ts us vs i w ns cs h n k j)
+simple_read (g.inst_line {ts} {us} {vs} {i} {args = ns} {conns = cs} w n h k j) = keyed_found key.Inst (ts ++ (Word w ∷ (us ++ (Mark mark.Colon ∷ vs))))
+    (g.Simple (what.Inst i w ns cs)) (inst_found ts us vs i w ns cs h n k j)
 
 step_read : {ts : Tokens} {s : BenchWhat} → IsStep ts s → Read ts (g.Step s)
 step_read (g.set {ts} {v} p n h) = keyed_found key.Set (Word p ∷ ts) _ (l.set_found ts p v n h)

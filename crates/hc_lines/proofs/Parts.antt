@@ -31,7 +31,8 @@ module _ {A B : Type 0} (P : Tokens → A → Type 0) (Q : Tokens → B → Type
   seq_sound f h d ts rest p e =
       let s = go_on-some (R d ts) (λ a left. go_on (S d left) (λ b end. Some ((a, b), end))) (p, rest) e in
       let t = go_on-some (S d s.0.1) (λ b end. Some ((s.0.0, b), end)) (p, rest) s.2 in
-      moved (Then P Q) d ts t.0.1 rest (s.0.0, t.0.0) p t.2 (joined P Q (Then P Q) [] (λ o. (refl, omega arith)) d ts s.0.1 s.0.1 t.0.1 s.0.0 t.0.0 (s.0.0, t.0.0) refl (λ xs ys x y. (xs, ys, refl, x, y)) (f d ts s.0.1 s.0.0 s.1) (h d s.0.1 t.0.1 t.0.0 t.1))
+      moved (Then P Q) d ts t.0.1 rest (s.0.0, t.0.0) p t.2 (joined P Q (Then P Q) [] (λ o. (refl, omega arith)) d ts s.0.1 s.0.1 t.0.1 s.0.0 t.0.0 (s.0.0, t.0.0) refl
+      (λ xs ys x y. (xs, ys, refl, x, y)) (f d ts s.0.1 s.0.0 s.1) (h d s.0.1 t.0.1 t.0.0 t.1))
 
   pub then_last : Part P R → Last Q S → Last (Then P Q) (λ d. seq (R d) (S d))
   then_last x y = record {
@@ -52,10 +53,12 @@ module _ {A B : Type 0} (P : Tokens → A → Type 0) (Q : Tokens → B → Type
     found = λ ts p h d o l rest e. seq_found x y ts p h d o l rest e;
     sound = seq_sound x.sound y.sound;
     even = λ ts p h o. subst (λ us. open_after o us ≡ o) (sym h.2) (Rattle.hc_sigtext.proofs.Fronts.even_join h.0 h.1 o (x.even h.0 p.0 h.3 o) (y.even h.1 p.1 h.4 o));
-    starts = λ ts p h rest e. subst (λ us. ends_sig (us ++ rest) ≡ true) (sym h.2) (subst (λ us. ends_sig us ≡ true) (sym (append_assoc h.0 h.1 rest)) (x.starts h.0 p.0 h.3 (h.1 ++ rest) (y.starts h.1 p.1 h.4 rest e)));
+    starts = λ ts p h rest e. subst (λ us. ends_sig (us ++ rest) ≡ true) (sym h.2)
+        (subst (λ us. ends_sig us ≡ true) (sym (append_assoc h.0 h.1 rest)) (x.starts h.0 p.0 h.3 (h.1 ++ rest) (y.starts h.1 p.1 h.4 rest e)));
   }
     where
-      seq_found : Part P R → Part Q S → (ts : Tokens) (p : A × B) → Then P Q ts p → (d o : ℕ) → most_open o ts ≤ o + d → (rest : Tokens) → ends_sig rest ≡ true → seq (R d) (S d) (ts ++ rest) ≡ Some (p, rest)
+      seq_found : Part P R → Part Q S → (ts : Tokens) (p : A × B) → Then P Q ts p → (d o : ℕ) → most_open o ts ≤ o + d → (rest : Tokens) → ends_sig rest ≡ true
+          → seq (R d) (S d) (ts ++ rest) ≡ Some (p, rest)
       seq_found x y ts p h d o l rest e =
           let l' : most_open o (h.0 ++ h.1) ≤ o + d = subst (λ us. most_open o us ≤ o + d) h.2 l in
           ap (λ us. seq (R d) (S d) (us ++ rest)) h.2 ∙ ap (seq (R d) (S d)) (append_assoc h.0 h.1 rest)

@@ -43,7 +43,9 @@ module _ {A : Type 0} (k : Text) (same : same_bytes k k ≡ true) (P : Tokens �
   word_opt : (b : Bool) (d : ℕ) (w : Text) (ts rest : Tokens) (x : Option A) → same_bytes w k ≡ b → after_word b (R d) ts (Word w ∷ ts) ≡ got x rest → Front (IsOpt k P) d (Word w ∷ ts) x rest
   word_opt true d w ts rest x is e =
       let p = go_on-some (R d ts) (λ a left. Some (Some a, left)) (x, rest) e in
-      moved (IsOpt k P) d (Word w ∷ ts) p.0.1 rest (Some p.0.0) x p.2 (led P P (IsOpt k P) (Word k ∷ []) (λ o. (refl, omega arith)) d (Word w ∷ ts) ts p.0.1 p.0.0 (Some p.0.0) (ap (λ y. Word y ∷ ts) (same_bytes-equal w k is)) (λ ys h. (ys, refl, h)) (part.sound d ts p.0.1 p.0.0 p.1))
+      moved (IsOpt k P) d (Word w ∷ ts) p.0.1 rest (Some p.0.0) x p.2
+      (led P P (IsOpt k P) (Word k ∷ []) (λ o. (refl, omega arith)) d (Word w ∷ ts) ts p.0.1 p.0.0 (Some p.0.0) (ap (λ y. Word y ∷ ts) (same_bytes-equal w k is))
+      (λ ys h. (ys, refl, h)) (part.sound d ts p.0.1 p.0.0 p.1))
   word_opt false d w ts rest x is e = none_front d (Word w ∷ ts) rest x e
 
   opt_sound : (d : ℕ) → Sound (IsOpt k P) d (optional k (R d))
@@ -66,7 +68,8 @@ module _ {A : Type 0} (k : Text) (same : same_bytes k k ≡ true) (P : Tokens �
         let l' : most_open o (Word k ∷ (h.0 ++ ys)) ≤ o + d = subst (λ us. most_open o (us ++ ys) ≤ o + d) h.1 l in
         let l2 : most_open o (h.0 ++ ys) ≤ o + d = omega arith in
         ap (λ us. seq (optional k (R d)) (S d) (us ++ ys)) h.1
-        ∙ ap (λ q. go_on q (λ a left. go_on (S d left) (λ b end. Some ((a, b), end)))) (present k (R d) (h.0 ++ ys) ys a same (part.found h.0 a h.2 d o (left_open h.0 ys o (o + d) l2) ys (last.starts ys b j)))
+        ∙ ap (λ q. go_on q (λ a left. go_on (S d left) (λ b end. Some ((a, b), end))))
+        (present k (R d) (h.0 ++ ys) ys a same (part.found h.0 a h.2 d o (left_open h.0 ys o (o + d) l2) ys (last.starts ys b j)))
         ∙ ap (λ q. go_on q (λ b end. Some ((Some a, b), end))) (last.found ys b j d o (right_open h.0 ys o (o + d) (part.even h.0 a h.2 o) l2))
 
     opt_start : (x : Option A) (b : B) (xs ys : Tokens) → IsOpt k P xs x → Q ys b → ends_sig (xs ++ ys) ≡ true
@@ -112,7 +115,8 @@ ClearParts = Then ClearPart InitPart
 
 pub clear_last : Last ClearParts r.clear_parts
 unfolding r.clear_parts
-clear_last = opt_last (codes "clear") refl SigAtom (λ d. seq (signal_at d) (atom_at d)) (then_part IsSig IsAtom signal_at atom_at sig_part atom_part) InitPart (λ d. optional (codes "init") (atom_at d)) (opt_alone (codes "init") refl IsAtom atom_at atom_part) (λ ts x h. opt_other (codes "clear") (codes "init") IsAtom refl x ts h)
+clear_last = opt_last (codes "clear") refl SigAtom (λ d. seq (signal_at d) (atom_at d)) (then_part IsSig IsAtom signal_at atom_at sig_part atom_part) InitPart
+    (λ d. optional (codes "init") (atom_at d)) (opt_alone (codes "init") refl IsAtom atom_at atom_part) (λ ts x h. opt_other (codes "clear") (codes "init") IsAtom refl x ts h)
 
 clear_other : (x : Option (Sig × Num)) (y : Option Num) (ts xs ys : Tokens) → ts ≡ xs ++ ys → ClearPart xs x → InitPart ys y → begins (codes "enable") ts ≡ false
 clear_other None y ts xs ys e h k = subst (λ us. begins (codes "enable") us ≡ false) (sym (e ∙ ap (λ us. us ++ ys) h)) (opt_other (codes "enable") (codes "init") IsAtom refl y ys k)

@@ -41,10 +41,14 @@ pub data IsSimple : Tokens → What → Type 0 where
   wire_line : {ts us : Tokens} {i : IdentText} {n : Num} → IsIdent ts i → IsNum us n → IsSimple (keyword (codes "wire") ∷ (ts ++ us)) (what.Wire i n)
   assign_line : {ts us : Tokens} {i : IdentText} {s : Sig} → IsIdent ts i → IsSig us s → IsSimple (keyword (codes "assign") ∷ (ts ++ us)) (what.Assign i s)
   label_line : {ts : Tokens} {i : IdentText} (w : Text) → IsName w → IsIdent ts i → IsSimple (keyword (codes "label") ∷ (ts ++ (Word w ∷ []))) (what.Label i w)
-  reg_line : {ts us es cs ns : Tokens} {i : IdentText} {s : Sig} {e : Option Sig} {c : Option (Sig × Num)} {n : Option Num} → IsIdent ts i → IsSig us s → IsEnable es e → IsClear cs c → IsInit ns n → IsSimple (keyword (codes "reg") ∷ (ts ++ (us ++ (es ++ (cs ++ ns))))) (what.Reg i s e c n)
-  memory_line : {ts us vs : Tokens} {i : IdentText} {size width : Num} → IsIdent ts i → IsAtom us size → IsAtom vs width → IsSimple (keyword (codes "memory") ∷ (ts ++ (us ++ vs))) (what.Memory i size width)
-  write_line : {ts us vs ws : Tokens} {i : IdentText} {e a v : Sig} → IsIdent ts i → IsSig us e → IsSig vs a → IsSig ws v → IsSimple (keyword (codes "write") ∷ (ts ++ (us ++ (vs ++ ws)))) (what.Write i e a v)
-  inst_line : {ts us vs : Tokens} {i : IdentText} {args : List Num} {conns : List (Text × Sig)} (of : Text) → IsName of → IsIdent ts i → AreAtoms us args → AreConns vs conns → IsSimple (keyword (codes "inst") ∷ (ts ++ (Word of ∷ (us ++ (Mark mark.Colon ∷ vs))))) (what.Inst i of args conns)
+  reg_line : {ts us es cs ns : Tokens} {i : IdentText} {s : Sig} {e : Option Sig} {c : Option (Sig × Num)} {n : Option Num} → IsIdent ts i → IsSig us s → IsEnable es e
+      → IsClear cs c → IsInit ns n → IsSimple (keyword (codes "reg") ∷ (ts ++ (us ++ (es ++ (cs ++ ns))))) (what.Reg i s e c n)
+  memory_line : {ts us vs : Tokens} {i : IdentText} {size width : Num} → IsIdent ts i → IsAtom us size → IsAtom vs width
+      → IsSimple (keyword (codes "memory") ∷ (ts ++ (us ++ vs))) (what.Memory i size width)
+  write_line : {ts us vs ws : Tokens} {i : IdentText} {e a v : Sig} → IsIdent ts i → IsSig us e → IsSig vs a → IsSig ws v
+      → IsSimple (keyword (codes "write") ∷ (ts ++ (us ++ (vs ++ ws)))) (what.Write i e a v)
+  inst_line : {ts us vs : Tokens} {i : IdentText} {args : List Num} {conns : List (Text × Sig)} (of : Text) → IsName of → IsIdent ts i → AreAtoms us args
+      → AreConns vs conns → IsSimple (keyword (codes "inst") ∷ (ts ++ (Word of ∷ (us ++ (Mark mark.Colon ∷ vs))))) (what.Inst i of args conns)
 
 -- a value is INT, - INT or SIZED
 pub data IsValue : Tokens → BenchValue → Type 0 where

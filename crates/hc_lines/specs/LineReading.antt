@@ -205,7 +205,8 @@ written key.Cycle = codes "cycle"
 written key.Reset = codes "reset"
 
 abbrev pub keywords : List Keyword
-keywords = key.Circuit ∷ key.Input ∷ key.Output ∷ key.Let ∷ key.Wire ∷ key.Assign ∷ key.Label ∷ key.Reg ∷ key.Memory ∷ key.Write ∷ key.Inst ∷ key.For ∷ key.If ∷ key.Else ∷ key.End ∷ key.Top ∷ key.Bench ∷ key.Set ∷ key.Cycle ∷ key.Reset ∷ []
+keywords = key.Circuit ∷ key.Input ∷ key.Output ∷ key.Let ∷ key.Wire ∷ key.Assign ∷ key.Label ∷ key.Reg ∷ key.Memory ∷ key.Write ∷ key.Inst ∷ key.For ∷ key.If ∷ key.Else ∷ key.End
+    ∷ key.Top ∷ key.Bench ∷ key.Set ∷ key.Cycle ∷ key.Reset ∷ []
 
 abbrev pub keyword_among : Text → List Keyword → Option Keyword
 keyword_among w [] = None

@@ -41,7 +41,8 @@ matched_more g h c d name s m e has = elim (one_more g (c, name) e has) [
   | inr new ↦ ((d, name), has_right h first, subst (λ (x : Named). Same x.0.tree d.tree) (sym new) s, ap (λ (x : Named). x.1) (sym new))
 ]
 
-name_along : (g h : Given) (c d : NamedTree) (name : List ℕ) → c.name ≡ d.name → Same c.tree d.tree → IsMatched g h → IsMatched h g → names_given g ≡ names_given h → IsNameAfter g c name → IsNameAfter h d name
+name_along : (g h : Given) (c d : NamedTree) (name : List ℕ) → c.name ≡ d.name → Same c.tree d.tree → IsMatched g h → IsMatched h g → names_given g ≡ names_given h
+    → IsNameAfter g c name → IsNameAfter h d name
 name_along g h c d name n s to back used (inl (e, has, same, is)) =
     let f = to e has in
     inl (f.0, f.1, same-trans f.0.0.tree e.0.tree d.tree (same-sym e.0.tree f.0.0.tree f.2) (same-trans e.0.tree c.tree d.tree same s), is ∙ sym f.3)
@@ -53,7 +54,8 @@ name_along g h c d name n s to back used (inr (none, mangled)) =
         let f = back e has in
         none f.0 f.1 (same-trans f.0.0.tree e.0.tree c.tree (same-sym e.0.tree f.0.0.tree f.2) (same-trans e.0.tree d.tree c.tree same (same-sym c.tree d.tree s)))
 
-names_along : (cs ds : List NamedTree) (names : List (List ℕ)) (g h : Given) → AreAlike cs ds → IsMatched g h → IsMatched h g → names_given g ≡ names_given h → AreNamesAfter g cs names → AreNamesAfter h ds names
+names_along : (cs ds : List NamedTree) (names : List (List ℕ)) (g h : Given) → AreAlike cs ds → IsMatched g h → IsMatched h g → names_given g ≡ names_given h
+    → AreNamesAfter g cs names → AreNamesAfter h ds names
 names_along [] [] names g h a to back used x = x
 names_along [] (d ∷ ds) names g h a to back used x = absurd a
 names_along (c ∷ cs) [] names g h a to back used x = absurd a
@@ -89,7 +91,16 @@ module _ (top other : Tree) (calls others : List NamedTree) (names : List (List 
   modules_along k [] (d ∷ ds) texts a x = absurd a
   modules_along k (c ∷ cs) [] texts a x = absurd a
   modules_along k (c ∷ cs) (d ∷ ds) texts a (inl (name, text, more, printed, is, all, rest)) =
-      inl (name, text, more, (printed.0, reaches_along top other c.tree d.tree e a.1 printed.1), call_text_along c d (same_paired c.tree d.tree a.1) name text is, all, modules_along (suc k) cs ds more a.2 rest)
+      inl (
+        name,
+        text,
+        more,
+        (printed.0, reaches_along top other c.tree d.tree e a.1 printed.1),
+        call_text_along c d
+            (same_paired c.tree d.tree a.1) name text is,
+        all,
+        modules_along (suc k) cs ds more a.2 rest,
+      )
   modules_along k (c ∷ cs) (d ∷ ds) texts a (inr (none, rest)) =
       inr (λ name p. none name (p.0, reaches_along other top d.tree c.tree (same-sym top other e) (same-sym c.tree d.tree a.1) p.1), modules_along (suc k) cs ds texts a.2 rest)
 

@@ -11,7 +11,8 @@ use Rattle.hc_names.specs.NameRows.{name_of_entry}
 use Rattle.hc_names.specs.Naming.{NameRow}
 use Rattle.hc_modules.specs.Pieces.{AreThere}
 
-module _ (entries : List FormView) (h : Hier) (over : IsElaboration entries h) (called : (id : EntryId) → Uses entries (hier_view h).own.entry id → (call : CallView) × Has (walk h) call × (call.own.entry ≡ id)) where
+module _ (entries : List FormView) (h : Hier) (over : IsElaboration entries h) (called : (id : EntryId) → Uses entries (hier_view h).own.entry id → (call : CallView)
+    × Has (walk h) call × (call.own.entry ≡ id)) where
   pub all_there : (rows : List NameRow) → ((call : CallView) → Has (walk h) call → IsSome (name_of_entry rows call.own.entry)) → AreThere entries (hier_view h).own.entry rows
   all_there rows named id used =
       let c = called id used in

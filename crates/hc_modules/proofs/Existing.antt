@@ -19,7 +19,8 @@ abbrev pub CallsCanBeNamed : Type 0
 CallsCanBeNamed = (calls : List NamedTree) → length calls < 2 ^ 64 → ((names : List (List ℕ)) → AreNames calls names → ⊥) → ⊥
 
 abbrev pub TreesHaveTexts : Type 0
-TreesHaveTexts = (t : Tree) (modules : ℕ → List ℕ) (title : List ℕ) → IsLawful (graph t) → length (graph t).ports.inputs ≤ 4294967296 → length (graph t).ports.outputs ≤ 4294967296 → (text : List ℕ) × IsTreeText t modules title text
+TreesHaveTexts = (t : Tree) (modules : ℕ → List ℕ) (title : List ℕ) → IsLawful (graph t) → length (graph t).ports.inputs ≤ 4294967296 → length (graph t).ports.outputs ≤ 4294967296
+    → (text : List ℕ) × IsTreeText t modules title text
 
 -- ---- names
 
@@ -87,7 +88,8 @@ module _ (reflexive : (t : Tree) → Same t t) (trees : TreesHaveTexts) (top : T
               let text : (text : List ℕ) × IsCallText top calls names call name text = call_text call name (can call first) in
               none (text.0 ∷ more.0, inl (name, text.0, more.0, printed, text.1, refl, more.1))
 
-pub text_exists : ((t : Tree) → Same t t) → CallsCanBeNamed → TreesHaveTexts → (top : Tree) (calls : List NamedTree) → length calls < 2 ^ 64 → ((call : NamedTree) → Has calls call → IsWritable calls call) → (((text : List ℕ) × IsVerilog top calls text) → ⊥) → ⊥
+pub text_exists : ((t : Tree) → Same t t) → CallsCanBeNamed → TreesHaveTexts → (top : Tree) (calls : List NamedTree) → length calls < 2 ^ 64
+    → ((call : NamedTree) → Has calls call → IsWritable calls call) → (((text : List ℕ) × IsVerilog top calls text) → ⊥) → ⊥
 text_exists reflexive nameable trees top calls few can none =
     nameable calls few (λ names are. modules_exist reflexive trees top calls names are 0 calls can (λ modules.
     none (join_with_byte 10 modules.0, record { names = names; right = are; texts = modules.0; modules = modules.1; text_is = refl })))

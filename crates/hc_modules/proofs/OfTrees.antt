@@ -32,7 +32,8 @@ record AreSeen (entries : List FormView) (bound : ℕ) (given : Given) (seen : L
   pub entry : (g : Named) → Has given g → (id : EntryId) × (id.0 < bound) × (g.0.tree ≡ unfolding_of entries id) × (is_among id seen ≡ true)
   pub call : (id : EntryId) → is_among id seen ≡ true → (g : Named) × Has given g × (g.0.tree ≡ unfolding_of entries id)
 
-module _ (entries : List FormView) (bound : ℕ) (given : Given) (seen : List EntryId) (call : NamedTree) (id : EntryId) (name : List ℕ) (lt : id.0 < bound) (is : call.tree ≡ unfolding_of entries id) (s : AreSeen entries bound given seen) where
+module _ (entries : List FormView) (bound : ℕ) (given : Given) (seen : List EntryId) (call : NamedTree) (id : EntryId) (name : List ℕ) (lt : id.0 < bound)
+    (is : call.tree ≡ unfolding_of entries id) (s : AreSeen entries bound given seen) where
   seen_again : is_among id seen ≡ true → AreSeen entries bound (given ++ (call, name) ∷ []) seen
   seen_again among = record {
     entry = λ g h. elim (one_more given (call, name) g h) [
@@ -59,7 +60,8 @@ mangled_free : (name : List ℕ) (used : List (List ℕ)) (result : List ℕ) �
 mangled_free name used result (inl (free, is)) = subst (λ (n : List ℕ). ¬ Has used n) (sym is) free
 mangled_free name used result (inr (taken, (k, is, free, lower))) = free
 
-module _ (h : History) (legal : IsLegal h) (given : Given) (seen : List EntryId) (s : AreSeen h.entries (length h.entries) given seen) (c : CallView) (lt : c.own.entry.0 < length h.entries) (n : List ℕ) (is : IsNameAfter given (named_tree h.entries c) n) where
+module _ (h : History) (legal : IsLegal h) (given : Given) (seen : List EntryId) (s : AreSeen h.entries (length h.entries) given seen) (c : CallView)
+    (lt : c.own.entry.0 < length h.entries) (n : List ℕ) (is : IsNameAfter given (named_tree h.entries c) n) where
   -- the name of an entry that was seen stands before
   name_stands : is_among c.own.entry seen ≡ true → Has (names_given given) n
   name_stands among = elim is [
@@ -77,7 +79,8 @@ module _ (h : History) (legal : IsLegal h) (given : Given) (seen : List EntryId)
     | inr x ↦ mangled_free c.own.name (names_given given) n x.1
   ]
 
-module _ (h : History) (legal : IsLegal h) (hier : Hier) (names : List (List ℕ)) (rows : List NameRow) (are : rows ≡ first_rows [] (zip (map (λ (c : CallView). c.own.entry) (walk hier)) names)) (top : EntryId) (within : top.0 < length h.entries) where
+module _ (h : History) (legal : IsLegal h) (hier : Hier) (names : List (List ℕ)) (rows : List NameRow)
+    (are : rows ≡ first_rows [] (zip (map (λ (c : CallView). c.own.entry) (walk hier)) names)) (top : EntryId) (within : top.0 < length h.entries) where
   abbrev top_tree : Tree
   top_tree = unfolding_of h.entries top
 
@@ -128,11 +131,13 @@ module _ (h : History) (legal : IsLegal h) (hier : Hier) (names : List (List ℕ
     abbrev own : NamedTree
     own = named_tree h.entries c
 
-    rest_of : (texts : List (List ℕ)) → AreModules top_tree calls names (length (names_given (given ++ (own, n) ∷ []))) (map (named_tree h.entries) cs) texts → AreModules top_tree calls names (suc (length (names_given given))) (map (named_tree h.entries) cs) texts
+    rest_of : (texts : List (List ℕ)) → AreModules top_tree calls names (length (names_given (given ++ (own, n) ∷ []))) (map (named_tree h.entries) cs) texts
+        → AreModules top_tree calls names (suc (length (names_given given))) (map (named_tree h.entries) cs) texts
     rest_of texts = subst (λ k. AreModules top_tree calls names k (map (named_tree h.entries) cs) texts) (next_place given own n)
 
     -- a call of an entry that was seen prints nothing
-    passed : Has (names_given given) n → Modules cs ns (given ++ (own, n) ∷ []) seen → (texts : List (List ℕ)) → AreTexts h.entries top rows (first_rows seen (zip (map (λ (d : CallView). d.own.entry) cs) ns)) texts
+    passed : Has (names_given given) n → Modules cs ns (given ++ (own, n) ∷ []) seen → (texts : List (List ℕ))
+        → AreTexts h.entries top rows (first_rows seen (zip (map (λ (d : CallView). d.own.entry) cs) ns)) texts
         → AreModules top_tree calls names (length (names_given given)) (own ∷ map (named_tree h.entries) cs) texts
     passed has rest texts x = inr (
       λ name p. not_first_after (names_given given) ns n name has (subst (λ (l : List (List ℕ)). IsFirst l (length (names_given given)) name) all p.0),
@@ -158,15 +163,19 @@ module _ (h : History) (legal : IsLegal h) (hier : Hier) (names : List (List ℕ
   all_later given c n ns all = all ∙ sym (append_assoc (names_given given) (n ∷ []) ns) ∙ ap (λ (l : List (List ℕ)). l ++ ns) (sym (given_more given c n))
 
   -- all calls from a place on
-  modules_on : (cs : List CallView) (ns : List (List ℕ)) (given : Given) (seen : List EntryId) → ((c : CallView) → Has cs c → c.own.entry.0 < length h.entries) → names ≡ names_given given ++ ns → AreSeen h.entries (length h.entries) given seen
+  modules_on : (cs : List CallView) (ns : List (List ℕ)) (given : Given) (seen : List EntryId) → ((c : CallView) → Has cs c → c.own.entry.0 < length h.entries)
+      → names ≡ names_given given ++ ns → AreSeen h.entries (length h.entries) given seen
       → AreNamesAfter given (map (named_tree h.entries) cs) ns → Modules cs ns given seen
   modules_on [] ns given seen inside all s a texts x = x
   modules_on (c ∷ cs) [] given seen inside all s a texts x = absurd a
   modules_on (c ∷ cs) (n ∷ ns) given seen inside all s a texts x =
-      by (λ more t. modules_on cs ns (given ++ (named_tree h.entries c, n) ∷ []) more (λ d k. inside d (later k)) (all_later given (named_tree h.entries c) n ns all) t a.1) (is_among c.own.entry seen) refl x
+      by (λ more t. modules_on cs ns (given ++ (named_tree h.entries c, n) ∷ []) more (λ d k. inside d (later k)) (all_later given (named_tree h.entries c) n ns all) t a.1)
+      (is_among c.own.entry seen) refl x
     where
-      by : ((more : List EntryId) → AreSeen h.entries (length h.entries) (given ++ (named_tree h.entries c, n) ∷ []) more → Modules cs ns (given ++ (named_tree h.entries c, n) ∷ []) more) → (b : Bool) → is_among c.own.entry seen ≡ b
-          → AreTexts h.entries top rows (cond b (first_rows seen (zip (map (λ (d : CallView). d.own.entry) cs) ns)) ((c.own.entry, n) ∷ first_rows (c.own.entry ∷ seen) (zip (map (λ (d : CallView). d.own.entry) cs) ns))) texts
+      by : ((more : List EntryId) → AreSeen h.entries (length h.entries) (given ++ (named_tree h.entries c, n) ∷ []) more → Modules cs ns (given ++ (named_tree h.entries c, n) ∷ []) more)
+          → (b : Bool) → is_among c.own.entry seen ≡ b
+          → AreTexts h.entries top rows (cond b (first_rows seen (zip (map (λ (d : CallView). d.own.entry) cs) ns))
+          ((c.own.entry, n) ∷ first_rows (c.own.entry ∷ seen) (zip (map (λ (d : CallView). d.own.entry) cs) ns))) texts
           → AreModules top_tree calls names (length (names_given given)) (named_tree h.entries c ∷ map (named_tree h.entries) cs) texts
       by rest true e x =
           passed c cs n ns given seen all (name_stands h legal given seen s c (inside c first) n a.0 e)
@@ -175,7 +184,8 @@ module _ (h : History) (legal : IsLegal h) (hier : Hier) (names : List (List ℕ
           printed c cs n ns given seen all (inside c first) (name_new h legal given seen s c (inside c first) n a.0 e)
           (rest (c.own.entry ∷ seen) (seen_new h.entries (length h.entries) given seen (named_tree h.entries c) c.own.entry n (inside c first) refl s)) texts x
 
-pub text_of_trees : (h : History) (hier : Hier) (rows : List NameRow) (text : List ℕ) → (hier_view hier).own.entry.0 < length h.entries → IsLegal h → IsElaboration h.entries hier → AreNameRows h.entries hier rows → IsHierarchyText h.entries (hier_view hier).own.entry rows text
+pub text_of_trees : (h : History) (hier : Hier) (rows : List NameRow) (text : List ℕ) → (hier_view hier).own.entry.0 < length h.entries → IsLegal h
+    → IsElaboration h.entries hier → AreNameRows h.entries hier rows → IsHierarchyText h.entries (hier_view hier).own.entry rows text
     → IsVerilog (unfolding_of h.entries (hier_view hier).own.entry) (named_trees h.entries hier) text
 text_of_trees h hier rows text within legal over are x = record {
   names = are.names;

@@ -38,7 +38,8 @@ module _ (h : History) (legal : IsLegal h) where
       some_at form.kids i (subst (λ n. i < n) (sym f.kids) (slice_get_within form.circuit.instances i row.0 row.1))
 
   -- the tree of a kid
-  pub kid_unfolds : (id : EntryId) (form : FormView) (i : ℕ) (next : EntryId) → slice_get h.entries id.0 ≡ Some form → slice_get form.kids i ≡ Some next → kid_of (unfolding_of h.entries id) i ≡ unfolding_of h.entries next
+  pub kid_unfolds : (id : EntryId) (form : FormView) (i : ℕ) (next : EntryId) → slice_get h.entries id.0 ≡ Some form → slice_get form.kids i ≡ Some next
+      → kid_of (unfolding_of h.entries id) i ≡ unfolding_of h.entries next
   kid_unfolds id form i next at is = ap (λ (t : Tree). kid_of t i) (unfolds h legal id form at) ∙ ap (kid_tree (unfolded h legal)) is
 
   pub graph_unfolds : (id : EntryId) (form : FormView) → slice_get h.entries id.0 ≡ Some form → graph (unfolding_of h.entries id) ≡ form.circuit
@@ -63,7 +64,8 @@ module _ (h : History) (legal : IsLegal h) where
         (p.0, p.1, subst (λ (t : Tree). Same t (unfolding_of h.entries id)) (sym p.2) (same-refl (unfolding_of h.entries id)))
 
     -- a reached path comes to the unfolding of an entry that the top uses
-    pub path_entry : top.0 < length h.entries → (path : List ℕ) → IsReachedPath top_tree path → (id : EntryId) × Uses h.entries top id × (id.0 < length h.entries) × (tree_at top_tree path ≡ unfolding_of h.entries id)
+    pub path_entry : top.0 < length h.entries → (path : List ℕ) → IsReachedPath top_tree path
+        → (id : EntryId) × Uses h.entries top id × (id.0 < length h.entries) × (tree_at top_tree path ≡ unfolding_of h.entries id)
     path_entry within [] r = (top, itself, within, refl)
     path_entry within (i ∷ path) r =
         let p = path_entry within path r.0 in

@@ -37,7 +37,9 @@ not_empty (t ∷ texts) text = refl
 
 module _ (entries : List FormView) (top : EntryId) (rows : List NameRow) where
   -- a row whose entry is used
-  pub prints_row : (place : ℕ) (first : Bool) (out new : List ℕ) (row : NameRow) (form : FormView) → slice_get rows place ≡ Some row → Uses entries top row.0 → slice_get entries row.0.0 ≡ Some form → Appends form rows row.1 first out new → IsPrinted entries top rows place first out → IsPrinted entries top rows (place + 1) false new
+  pub prints_row : (place : ℕ) (first : Bool) (out new : List ℕ) (row : NameRow) (form : FormView) → slice_get rows place ≡ Some row → Uses entries top row.0
+      → slice_get entries row.0.0 ≡ Some form → Appends form rows row.1 first out new → IsPrinted entries top rows place first out
+      → IsPrinted entries top rows (place + 1) false new
   prints_row place first out new row form at uses found (text, is, made) p = record {
     texts = p.texts ++ text ∷ [];
     rest = λ more h. subst (AreTexts entries top rows rows) (sym (append_assoc p.texts (text ∷ []) more))
@@ -48,7 +50,8 @@ module _ (entries : List FormView) (top : EntryId) (rows : List NameRow) where
   }
 
   -- a row whose entry is not used
-  pub passes_row : (place : ℕ) (first : Bool) (out : List ℕ) (row : NameRow) → slice_get rows place ≡ Some row → (Uses entries top row.0 → ⊥) → IsPrinted entries top rows place first out → IsPrinted entries top rows (place + 1) first out
+  pub passes_row : (place : ℕ) (first : Bool) (out : List ℕ) (row : NameRow) → slice_get rows place ≡ Some row → (Uses entries top row.0 → ⊥)
+      → IsPrinted entries top rows place first out → IsPrinted entries top rows (place + 1) first out
   passes_row place first out row at unused p = record {
     texts = p.texts;
     rest = λ more h. p.rest more (subst (λ (left : List NameRow). AreTexts entries top rows left more) (sym (row_at rows place row at)) (inr (unused, h)));

@@ -22,7 +22,8 @@ kid_walk kid = walk (arc_value kid)
 abbrev pub Leads : List (Arc Hier Global) → List (Arc Hier Global) → List NameRow → List NameRow → Type 0
 Leads left kids rows now = (end : List NameRow) → NamesTo now (requests (flat_map kid_walk left)) end → NamesTo rows (requests (flat_map kid_walk kids)) end
 
-pub kids_more : (kids : List (Arc Hier Global)) (i : ℕ) (kid : Arc Hier Global) (rows now after : List NameRow) → i < length kids → kid ≡ get_or kids i kid → Leads (drop i kids) kids rows now → NamesTo now (requests (kid_walk kid)) after → Leads (drop (i + 1) kids) kids rows after
+pub kids_more : (kids : List (Arc Hier Global)) (i : ℕ) (kid : Arc Hier Global) (rows now after : List NameRow) → i < length kids → kid ≡ get_or kids i kid
+    → Leads (drop i kids) kids rows now → NamesTo now (requests (kid_walk kid)) after → Leads (drop (i + 1) kids) kids rows after
 kids_more kids i kid rows now after lt is leads one end rest =
     leads end (subst (λ (calls : List CallView). NamesTo now (requests calls) end) (sym next)
     (subst (λ (calls : List NameRow). NamesTo now calls end) (sym (map-append _ (kid_walk kid) (flat_map kid_walk (drop (i + 1) kids))))
@@ -50,8 +51,10 @@ walk_is h =
     ap (λ (v : HierView). requests v.calls) (fold_out-Hier HierView hier_level h)
     ∙ requests_over (kids_in level) (out-Hier h).kids (call_level level) (kid_views (out-Hier h))
 
-pub kids_done : (h : Hier) (kids : List (Arc Hier Global)) (i : ℕ) (rows now after : List NameRow) → length kids ≤ i → kids ≡ (out-Hier h).kids → Leads (drop i kids) kids rows now → NamesTo now (((out-Hier h).entry, (out-Hier h).name) ∷ []) after → NamesTo rows (requests (walk h)) after
+pub kids_done : (h : Hier) (kids : List (Arc Hier Global)) (i : ℕ) (rows now after : List NameRow) → length kids ≤ i → kids ≡ (out-Hier h).kids
+    → Leads (drop i kids) kids rows now → NamesTo now (((out-Hier h).entry, (out-Hier h).name) ∷ []) after → NamesTo rows (requests (walk h)) after
 kids_done h kids i rows now after le is leads own =
-    subst (λ (calls : List NameRow). NamesTo rows calls after) (sym (walk_is h ∙ ap (λ (ks : List (Arc Hier Global)). requests (flat_map kid_walk ks) ++ ((out-Hier h).entry, (out-Hier h).name) ∷ []) (sym is)))
+    subst (λ (calls : List NameRow). NamesTo rows calls after) (sym
+    (walk_is h ∙ ap (λ (ks : List (Arc Hier Global)). requests (flat_map kid_walk ks) ++ ((out-Hier h).entry, (out-Hier h).name) ∷ []) (sym is)))
     (names_on (requests (flat_map kid_walk kids)) (((out-Hier h).entry, (out-Hier h).name) ∷ []) rows now after
     (leads now (subst (λ (left : List (Arc Hier Global)). NamesTo now (requests (flat_map kid_walk left)) now) (sym (drop_of_length-le kids le)) refl)) own)

@@ -69,7 +69,8 @@ IsEarlier given call = (earlier : NamedTree × List ℕ) × Has given earlier ×
 named_call : (given : Given) (call : NamedTree) → length given < 2 ^ 64 → (HasName given call → ⊥) → ⊥
 named_call given call few none =
     let many : length (map (λ (g : NamedTree × List ℕ). g.1) given) ≡ length given = length-map given (λ (g : NamedTree × List ℕ). g.1) in
-    let new : (result : List ℕ) × IsMangled call.name (map (λ (g : NamedTree × List ℕ). g.1) given) result = mangled call.name (map (λ (g : NamedTree × List ℕ). g.1) given) (omega (arith, many, few)) in
+    let new : (result : List ℕ) × IsMangled call.name (map (λ (g : NamedTree × List ℕ). g.1) given) result = mangled call.name (map (λ (g : NamedTree × List ℕ). g.1) given)
+    (omega (arith, many, few)) in
     let apart : IsEarlier given call → ⊥ = (λ (x : IsEarlier given call). none (x.0.1, inl (x.0, x.1, x.2, refl))) in
     none (new.0, inr (λ earlier has same. apart (earlier, has, same), new.1))
 

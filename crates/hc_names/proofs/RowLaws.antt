@@ -46,7 +46,8 @@ name_has (x ∷ rows) id name e = by (λ rest. name_has rows id name rest) (nat_
 
 -- ---- names over lists with the same members
 
-mangled_by : (name : List ℕ) (xs ys : List (List ℕ)) (result : List ℕ) → ((n : List ℕ) → Has xs n → Has ys n) → ((n : List ℕ) → Has ys n → Has xs n) → IsMangled name xs result → IsMangled name ys result
+mangled_by : (name : List ℕ) (xs ys : List (List ℕ)) (result : List ℕ) → ((n : List ℕ) → Has xs n → Has ys n) → ((n : List ℕ) → Has ys n → Has xs n)
+    → IsMangled name xs result → IsMangled name ys result
 mangled_by name xs ys result to back (inl (free, is)) = inl ((λ h. free (back name h)), is)
 mangled_by name xs ys result to back (inr (taken, (k, is, free, lower))) = inr (to name taken, (k, is, (λ h. free (back result h)), λ j lt. to (numbered name j) (lower j lt)))
 
@@ -90,7 +91,9 @@ one_more xs x y h = elim (has_cases xs (x ∷ []) h) [
 
 module _ (entries : List FormView) (bound : ℕ) where
   -- a call of an entry that has a row
-  fits_again : (given : Given) (rows : List NameRow) (seen : List EntryId) (call : NamedTree) (id : EntryId) (name : List ℕ) → id.0 < bound → call.tree ≡ unfolding_of entries id → name_of_entry rows id ≡ Some name → Fits entries bound given rows seen → Fits entries bound (given ++ (call, name) ∷ []) rows seen
+  fits_again : (given : Given) (rows : List NameRow) (seen : List EntryId) (call : NamedTree) (id : EntryId) (name : List ℕ) → id.0 < bound
+      → call.tree ≡ unfolding_of entries id → name_of_entry rows id ≡ Some name → Fits entries bound given rows seen
+      → Fits entries bound (given ++ (call, name) ∷ []) rows seen
   fits_again given rows seen call id name lt is has f = record {
     entry = λ g h. elim (one_more given (call, name) g h) [
       | inl old ↦ f.entry g old
@@ -120,7 +123,9 @@ module _ (entries : List FormView) (bound : ℕ) where
   seen_else None false name = refl
 
   -- a call of an entry that has none yet
-  pub fits_new : (given : Given) (rows : List NameRow) (seen : List EntryId) (call : NamedTree) (id : EntryId) (name : List ℕ) → id.0 < bound → call.tree ≡ unfolding_of entries id → name_of_entry rows id ≡ None → Fits entries bound given rows seen → Fits entries bound (given ++ (call, name) ∷ []) (rows ++ (id, name) ∷ []) (id ∷ seen)
+  pub fits_new : (given : Given) (rows : List NameRow) (seen : List EntryId) (call : NamedTree) (id : EntryId) (name : List ℕ) → id.0 < bound
+      → call.tree ≡ unfolding_of entries id → name_of_entry rows id ≡ None → Fits entries bound given rows seen
+      → Fits entries bound (given ++ (call, name) ∷ []) (rows ++ (id, name) ∷ []) (id ∷ seen)
   fits_new given rows seen call id name lt is none f = record {
     entry = λ g h. elim (one_more given (call, name) g h) [
       | inl old ↦ let e = f.entry g old in (e.0, e.1, e.2, name_after rows (id, name) e.0 ∙ ap (λ (o : Option (List ℕ)). or_else o (in_row (id, name) e.0)) e.3)
@@ -146,13 +151,15 @@ module _ (entries : List FormView) (bound : ℕ) where
 
   module _ (one : (i j : EntryId) → i.0 < bound → j.0 < bound → Same (unfolding_of entries i) (unfolding_of entries j) ↔ (i ≡ j)) where
     -- the name of a call whose entry has a row
-    again : (given : Given) (rows : List NameRow) (seen : List EntryId) (c : CallView) (name : List ℕ) → c.own.entry.0 < bound → name_of_entry rows c.own.entry ≡ Some name → Fits entries bound given rows seen → IsNameAfter given (named_tree entries c) name
+    again : (given : Given) (rows : List NameRow) (seen : List EntryId) (c : CallView) (name : List ℕ) → c.own.entry.0 < bound
+        → name_of_entry rows c.own.entry ≡ Some name → Fits entries bound given rows seen → IsNameAfter given (named_tree entries c) name
     again given rows seen c name lt has f =
         let g = f.call c.own.entry name has in
         inl (g.0, g.1, subst (λ (t : Tree). Same t (unfolding_of entries c.own.entry)) (sym g.2) ((one c.own.entry c.own.entry lt lt).1 refl), sym g.3)
 
     -- the name of a call whose entry has none
-    new : (given : Given) (rows : List NameRow) (seen : List EntryId) (c : CallView) (name : List ℕ) → c.own.entry.0 < bound → name_of_entry rows c.own.entry ≡ None → IsMangled c.own.name (names_in rows) name → Fits entries bound given rows seen → IsNameAfter given (named_tree entries c) name
+    new : (given : Given) (rows : List NameRow) (seen : List EntryId) (c : CallView) (name : List ℕ) → c.own.entry.0 < bound → name_of_entry rows c.own.entry ≡ None
+        → IsMangled c.own.name (names_in rows) name → Fits entries bound given rows seen → IsNameAfter given (named_tree entries c) name
     new given rows seen c name lt none mangled f = inr (others, mangled_by c.own.name (names_in rows) (names_given given) name f.back f.into mangled)
       where
         others : (g : NamedTree × List ℕ) → Has given g → ¬ Same g.0.tree (unfolding_of entries c.own.entry)
@@ -164,23 +171,29 @@ module _ (entries : List FormView) (bound : ℕ) where
             absurd cc
 
     abbrev pub Named : List CallView → Given → List NameRow → List EntryId → List NameRow → Type 0
-    Named cs given rows seen end = (names : List (List ℕ)) × AreNamesAfter given (map (named_tree entries) cs) names × (end ≡ rows ++ first_rows seen (zip (map (λ (c : CallView). c.own.entry) cs) names))
+    Named cs given rows seen end = (names : List (List ℕ)) × AreNamesAfter given (map (named_tree entries) cs) names
+        × (end ≡ rows ++ first_rows seen (zip (map (λ (c : CallView). c.own.entry) cs) names))
 
     skipped : (rows rest : List NameRow) (seen : List EntryId) (id : EntryId) (name : List ℕ) → is_among id seen ≡ true → rows ++ first_rows seen rest ≡ rows ++ first_rows seen ((id, name) ∷ rest)
     skipped rows rest seen id name is = ap (λ (b : Bool). rows ++ cond b (first_rows seen rest) ((id, name) ∷ first_rows (id ∷ seen) rest)) (sym is)
 
-    added : (rows rest : List NameRow) (seen : List EntryId) (id : EntryId) (name : List ℕ) → is_among id seen ≡ false → (rows ++ (id, name) ∷ []) ++ first_rows (id ∷ seen) rest ≡ rows ++ first_rows seen ((id, name) ∷ rest)
-    added rows rest seen id name is = append_assoc rows ((id, name) ∷ []) (first_rows (id ∷ seen) rest) ∙ ap (λ (b : Bool). rows ++ cond b (first_rows seen rest) ((id, name) ∷ first_rows (id ∷ seen) rest)) (sym is)
+    added : (rows rest : List NameRow) (seen : List EntryId) (id : EntryId) (name : List ℕ) → is_among id seen ≡ false
+        → (rows ++ (id, name) ∷ []) ++ first_rows (id ∷ seen) rest ≡ rows ++ first_rows seen ((id, name) ∷ rest)
+    added rows rest seen id name is = append_assoc rows ((id, name) ∷ []) (first_rows (id ∷ seen) rest)
+        ∙ ap (λ (b : Bool). rows ++ cond b (first_rows seen rest) ((id, name) ∷ first_rows (id ∷ seen) rest)) (sym is)
 
-    pub named_on : (cs : List CallView) (given : Given) (rows : List NameRow) (seen : List EntryId) (end : List NameRow) → ((c : CallView) → Has cs c → c.own.entry.0 < bound) → Fits entries bound given rows seen → NamesTo rows (requests cs) end → Named cs given rows seen end
+    pub named_on : (cs : List CallView) (given : Given) (rows : List NameRow) (seen : List EntryId) (end : List NameRow)
+        → ((c : CallView) → Has cs c → c.own.entry.0 < bound) → Fits entries bound given rows seen → NamesTo rows (requests cs) end → Named cs given rows seen end
     named_on [] given rows seen end inside f e = ([], refl, e ∙ sym (append-nil rows))
     named_on (c ∷ cs) given rows seen end inside f (inl (name, has, rest)) =
         let lt = inside c first in
-        let r = named_on cs (given ++ (named_tree entries c, name) ∷ []) rows seen end (λ d h. inside d (later h)) (fits_again given rows seen (named_tree entries c) c.own.entry name lt refl has f) rest in
+        let r = named_on cs (given ++ (named_tree entries c, name) ∷ []) rows seen end (λ d h. inside d (later h))
+        (fits_again given rows seen (named_tree entries c) c.own.entry name lt refl has f) rest in
         (name ∷ r.0, (again given rows seen c name lt has f, r.1), r.2 ∙ skipped rows _ seen c.own.entry name (f.seen c.own.entry ∙ ap is_some has))
     named_on (c ∷ cs) given rows seen end inside f (inr (name, none, mangled, rest)) =
         let lt = inside c first in
-        let r = named_on cs (given ++ (named_tree entries c, name) ∷ []) (rows ++ (c.own.entry, name) ∷ []) (c.own.entry ∷ seen) end (λ d h. inside d (later h)) (fits_new given rows seen (named_tree entries c) c.own.entry name lt refl none f) rest in
+        let r = named_on cs (given ++ (named_tree entries c, name) ∷ []) (rows ++ (c.own.entry, name) ∷ []) (c.own.entry ∷ seen) end (λ d h. inside d (later h))
+        (fits_new given rows seen (named_tree entries c) c.own.entry name lt refl none f) rest in
         (name ∷ r.0, (new given rows seen c name lt none mangled f, r.1), r.2 ∙ added rows _ seen c.own.entry name (f.seen c.own.entry ∙ ap is_some none))
 
 pub fits_none : (entries : List FormView) (bound : ℕ) → Fits entries bound [] [] []

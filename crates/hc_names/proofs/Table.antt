@@ -90,7 +90,8 @@ set_cases (x ∷ es) name n e h =
     head x es name n _ same first = inr (ap (λ (k : List ℕ). (k, n)) (sym same))
     head x es name n e same (later k) = inl (later k)
 
-    tail : (x : Entry) (es : Entries) (name : List ℕ) (n : ℕ) (e : Entry) → (Has (set_value (bytes_eq name) es n) e → Has es e ⊎ (e ≡ (name, n))) → Has (x ∷ set_value (bytes_eq name) es n) e → Has (x ∷ es) e ⊎ (e ≡ (name, n))
+    tail : (x : Entry) (es : Entries) (name : List ℕ) (n : ℕ) (e : Entry) → (Has (set_value (bytes_eq name) es n) e → Has es e ⊎ (e ≡ (name, n)))
+        → Has (x ∷ set_value (bytes_eq name) es n) e → Has (x ∷ es) e ⊎ (e ≡ (name, n))
     tail x es name n _ rest first = inl first
     tail x es name n e rest (later k) = elim (rest k) [ inl l ↦ inl (later l) | inr r ↦ inr r ]
 
@@ -120,7 +121,8 @@ numbered_next es name given k right named below other n h j lt =
         let same : other ≡ name = ap (λ (e : Entry). e.0) new in
         let number : n ≡ k + 1 = ap (λ (e : Entry). e.1) new in
         let there : (i : ℕ) → i < k + 1 → Has (keys_of es ++ given ∷ []) (numbered name i) =
-        below_more (λ i. Has (keys_of es ++ given ∷ []) (numbered name i)) k (λ i l. has_left (given ∷ []) (below i l)) (subst (λ (g : List ℕ). Has (keys_of es ++ given ∷ []) g) named (has_right (keys_of es) first)) in
+        below_more (λ i. Has (keys_of es ++ given ∷ []) (numbered name i)) k (λ i l. has_left (given ∷ []) (below i l))
+        (subst (λ (g : List ℕ). Has (keys_of es ++ given ∷ []) g) named (has_right (keys_of es) first)) in
         subst (λ (o : List ℕ). Has (keys_of es ++ given ∷ []) (numbered o j)) (sym same) (there j (omega arith))
 
 -- ---- what is given
@@ -128,7 +130,8 @@ numbered_next es name given k right named below other n h j lt =
 pub mangled_free : (es : Entries) (name given : List ℕ) → lookup (bytes_eq name) es ≡ None → given ≡ name → IsMangled name (keys_of es) given
 mangled_free es name given free e = inl (not_found es name free, e)
 
-pub mangled_numbered : (es : Entries) (name given : List ℕ) (from k : ℕ) → lookup (bytes_eq name) es ≡ Some from → lookup (bytes_eq given) es ≡ None → given ≡ numbered name k → AreGivenBelow (keys_of es) name k → IsMangled name (keys_of es) given
+pub mangled_numbered : (es : Entries) (name given : List ℕ) (from k : ℕ) → lookup (bytes_eq name) es ≡ Some from → lookup (bytes_eq given) es ≡ None
+    → given ≡ numbered name k → AreGivenBelow (keys_of es) name k → IsMangled name (keys_of es) given
 mangled_numbered es name given from k there free named below =
     inr (has_map (λ (e : Entry). e.0) (found es name from there), (k, named, not_found es given free, below))
 
@@ -137,7 +140,8 @@ pub given_below : (es : Entries) (name : List ℕ) (from : ℕ) → AreNumbered 
 given_below es name from right there = right name from (found es name from there)
 
 -- one number more
-pub given_one_more : (es : Entries) (name given : List ℕ) (k : ℕ) → is_some (lookup (bytes_eq given) es) ≡ true → given ≡ numbered name k → AreGivenBelow (keys_of es) name k → AreGivenBelow (keys_of es) name (k + 1)
+pub given_one_more : (es : Entries) (name given : List ℕ) (k : ℕ) → is_some (lookup (bytes_eq given) es) ≡ true → given ≡ numbered name k
+    → AreGivenBelow (keys_of es) name k → AreGivenBelow (keys_of es) name (k + 1)
 given_one_more es name given k there named below =
     below_more (λ j. Has (keys_of es) (numbered name j)) k below (subst (λ (g : List ℕ). Has (keys_of es) g) named (has_map (λ (x : Entry). x.0) (some_found (lookup (bytes_eq given) es) refl there)))
   where

@@ -20,8 +20,10 @@ mark_cut marks ids k n id at within =
     elim (choice (id.0 == n)) [
       | inl e ↦
           (let same : id.0 ≡ n = eqb-true id.0 n e in
-          let set : mark_at (slice_set marks id.0 true) n ≡ true = ap (λ m. mark_at (slice_set marks id.0 true) m) (sym same) ∙ ap (λ (o : Option Bool). unwrap_or o false) (get_set_same marks id.0 true within) in
-          ap (λ b. b || rest) set ∙ sym (ap (λ l. mark_at marks n || list_any (λ (i : NodeId). i.0 == n) l) (drop_at ids k id at) ∙ ap (λ b. mark_at marks n || (b || rest)) e ∙ or_true (mark_at marks n)))
+          let set : mark_at (slice_set marks id.0 true) n ≡ true = ap (λ m. mark_at (slice_set marks id.0 true) m) (sym same) ∙ ap (λ (o : Option Bool). unwrap_or o false)
+          (get_set_same marks id.0 true within) in
+          ap (λ b. b || rest) set ∙ sym (ap (λ l. mark_at marks n || list_any (λ (i : NodeId). i.0 == n) l) (drop_at ids k id at) ∙ ap (λ b. mark_at marks n || (b || rest)) e
+          ∙ or_true (mark_at marks n)))
       | inr e ↦
           ap (λ (o : Option Bool). unwrap_or o false || rest) (get_set_other marks id.0 n true (λ same. true≢false (sym (eq-eqb id.0 n same) ∙ e)))
           ∙ sym (ap (λ l. mark_at marks n || list_any (λ (i : NodeId). i.0 == n) l) (drop_at ids k id at) ∙ ap (λ b. mark_at marks n || (b || rest)) e)

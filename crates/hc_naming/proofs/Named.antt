@@ -81,9 +81,15 @@ takes_keys used (w ∷ ws) (g ∷ gs) t = ap (λ (k : Named). k ∷ keys gs) t.0
 takes_keys used [] (g ∷ gs) t = absurd t
 takes_keys used (w ∷ ws) [] t = absurd t
 
-pub takes_more : (used : List (List ℕ)) (done : Wants) (given : List Given) (it : Named) (want name : List ℕ) → Takes used done given → IsMangled want (used ++ names_of given) name → Takes used (done ++ (it, want) ∷ []) (given ++ (it, name) ∷ [])
+pub takes_more : (used : List (List ℕ)) (done : Wants) (given : List Given) (it : Named) (want name : List ℕ) → Takes used done given
+    → IsMangled want (used ++ names_of given) name → Takes used (done ++ (it, want) ∷ []) (given ++ (it, name) ∷ [])
 takes_more used [] [] it want name t m = (refl, subst (λ u. IsMangled want u name) (append-nil used) m, tt)
-takes_more used (w ∷ ws) (g ∷ gs) it want name t m = (t.0, t.1, takes_more (used ++ g.1 ∷ []) ws gs it want name t.2 (subst (λ u. IsMangled want u name) (sym (append_assoc used (g.1 ∷ []) (names_of gs))) m))
+takes_more used (w ∷ ws) (g ∷ gs) it want name t m = (
+  t.0,
+  t.1,
+  takes_more (used ++ g.1 ∷ []) ws gs it want name t.2
+      (subst (λ u. IsMangled want u name) (sym (append_assoc used (g.1 ∷ []) (names_of gs))) m),
+)
 takes_more used [] (g ∷ gs) it want name t m = absurd t
 takes_more used (w ∷ ws) [] it want name t m = absurd t
 

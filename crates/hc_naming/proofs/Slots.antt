@@ -73,7 +73,13 @@ module _ (g : Graph) (lawful : IsLawful g) (canonical : IsCanonical g) (used use
   unfolding name_by
   node_named k m i c lt f n =
       naming_more (vertex (node k)) f.given n f.mangled f.added (ap (λ s. name_at s k) f.set ∙ filled_same names.nodes.items k f.given lt) others
-      (record { nodes = ap length f.set ∙ length_set names.nodes.items k (Some f.given) ∙ n.room.nodes; memories = ap (λ v. length v.items) m ∙ n.room.memories; instances = ap (λ v. length v.items) i ∙ n.room.instances; cells = ap (λ v. length v.items) c ∙ n.room.cells })
+      (record {
+        nodes = ap length f.set ∙ length_set names.nodes.items k (Some f.given) ∙ n.room.nodes;
+        memories = ap (λ v. length v.items) m
+            ∙ n.room.memories;
+        instances = ap (λ v. length v.items) i ∙ n.room.instances;
+        cells = ap (λ v. length v.items) c ∙ n.room.cells;
+      })
     where
       others : (other : Named) → same_named (vertex (node k)) other ≡ false → name_by names' other ≡ name_by names other
       others clock e = refl
@@ -87,7 +93,13 @@ module _ (g : Graph) (lawful : IsLawful g) (canonical : IsCanonical g) (used use
   unfolding name_by
   memory_named k m i c lt f n =
       naming_more (vertex (mem k)) f.given n f.mangled f.added (ap (λ s. name_at s k) f.set ∙ filled_same names.memories.items k f.given lt) others
-      (record { memories = ap length f.set ∙ length_set names.memories.items k (Some f.given) ∙ n.room.memories; nodes = ap (λ v. length v.items) m ∙ n.room.nodes; instances = ap (λ v. length v.items) i ∙ n.room.instances; cells = ap (λ v. length v.items) c ∙ n.room.cells })
+      (record {
+        memories = ap length f.set ∙ length_set names.memories.items k (Some f.given) ∙ n.room.memories;
+        nodes = ap (λ v. length v.items) m
+            ∙ n.room.nodes;
+        instances = ap (λ v. length v.items) i ∙ n.room.instances;
+        cells = ap (λ v. length v.items) c ∙ n.room.cells;
+      })
     where
       others : (other : Named) → same_named (vertex (mem k)) other ≡ false → name_by names' other ≡ name_by names other
       others clock e = refl
@@ -101,7 +113,13 @@ module _ (g : Graph) (lawful : IsLawful g) (canonical : IsCanonical g) (used use
   unfolding name_by
   instance_named k m i c lt f n =
       naming_more (vertex (inst k)) f.given n f.mangled f.added (ap (λ s. name_at s k) f.set ∙ filled_same names.instances.items k f.given lt) others
-      (record { instances = ap length f.set ∙ length_set names.instances.items k (Some f.given) ∙ n.room.instances; nodes = ap (λ v. length v.items) m ∙ n.room.nodes; memories = ap (λ v. length v.items) i ∙ n.room.memories; cells = ap (λ v. length v.items) c ∙ n.room.cells })
+      (record {
+        instances = ap length f.set ∙ length_set names.instances.items k (Some f.given) ∙ n.room.instances;
+        nodes = ap (λ v. length v.items) m
+            ∙ n.room.nodes;
+        memories = ap (λ v. length v.items) i ∙ n.room.memories;
+        cells = ap (λ v. length v.items) c ∙ n.room.cells;
+      })
     where
       others : (other : Named) → same_named (vertex (inst k)) other ≡ false → name_by names' other ≡ name_by names other
       others clock e = refl
@@ -115,7 +133,13 @@ module _ (g : Graph) (lawful : IsLawful g) (canonical : IsCanonical g) (used use
   unfolding name_by
   cell_named k m i c lt f n =
       naming_more (cell k) f.given n f.mangled f.added (ap (λ s. name_at s k) f.set ∙ filled_same names.cells.items k f.given lt) others
-      (record { cells = ap length f.set ∙ length_set names.cells.items k (Some f.given) ∙ n.room.cells; nodes = ap (λ v. length v.items) m ∙ n.room.nodes; memories = ap (λ v. length v.items) i ∙ n.room.memories; instances = ap (λ v. length v.items) c ∙ n.room.instances })
+      (record {
+        cells = ap length f.set ∙ length_set names.cells.items k (Some f.given) ∙ n.room.cells;
+        nodes = ap (λ v. length v.items) m
+            ∙ n.room.nodes;
+        memories = ap (λ v. length v.items) i ∙ n.room.memories;
+        instances = ap (λ v. length v.items) c ∙ n.room.instances;
+      })
     where
       others : (other : Named) → same_named (cell k) other ≡ false → name_by names' other ≡ name_by names other
       others clock e = refl
@@ -164,7 +188,8 @@ pub empty_none : (k : ℕ) → name_at [] k ≡ []
 unfolding name_at
 empty_none k = refl
 
-pub naming_clock : (g : Graph) (names : ModuleNames) (used : List (List ℕ)) (ports : List Port) → used ≡ codes "clock" ∷ [] → ports ≡ g.ports.inputs → IsEmptyTable names → HasRoom g names → IsNaming g used names (map want_input (enumerate_from 0 ports) ++ from_outputs g)
+pub naming_clock : (g : Graph) (names : ModuleNames) (used : List (List ℕ)) (ports : List Port) → used ≡ codes "clock" ∷ [] → ports ≡ g.ports.inputs → IsEmptyTable names
+    → HasRoom g names → IsNaming g used names (map want_input (enumerate_from 0 ports) ++ from_outputs g)
 naming_clock g names used ports only all empty room =
     subst (λ u. IsNaming g u names (map want_input (enumerate_from 0 ports) ++ from_outputs g)) (sym only)
     (subst (λ ps. IsNaming g (codes "clock" ∷ []) names (map want_input (enumerate_from 0 ps) ++ from_outputs g)) (sym all)
@@ -174,5 +199,6 @@ naming_clock g names used ports only all empty room =
 pub unmarked_inner : (g : Graph) (marks : List Bool) → AreMarks g marks → is_unmarked marks ≡ is_inner g
 unmarked_inner g marks right = λ i p. if right.right p.0 i then false else true
 
-pub inner_by_marks : (g : Graph) (marks : List Bool) (start : ℕ) (rows : List NodeRow) → AreMarks g marks → start ≡ first_number g → rows ≡ drop (first_number g) g.nodes → filter (is_unmarked marks) (enumerate_from start rows) ≡ inner_nodes g
+pub inner_by_marks : (g : Graph) (marks : List Bool) (start : ℕ) (rows : List NodeRow) → AreMarks g marks → start ≡ first_number g → rows ≡ drop (first_number g) g.nodes
+    → filter (is_unmarked marks) (enumerate_from start rows) ≡ inner_nodes g
 inner_by_marks g marks start rows right at all = λ i. filter (unmarked_inner g marks right i) (enumerate_from (at i) (all i))

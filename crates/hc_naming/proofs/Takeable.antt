@@ -39,7 +39,8 @@ few_numbered g =
     omega (arith, a, b)
 
 -- a circuit wants few names
-few_wanted : (g : Graph) → length g.ports.inputs ≤ 4294967296 → length g.ports.outputs ≤ 4294967296 → length g.nodes ≤ 4294967296 → length g.memories ≤ 4294967296 → length g.instances ≤ 4294967296 → length (wanted g) < 2 ^ 64
+few_wanted : (g : Graph) → length g.ports.inputs ≤ 4294967296 → length g.ports.outputs ≤ 4294967296 → length g.nodes ≤ 4294967296 → length g.memories ≤ 4294967296
+    → length g.instances ≤ 4294967296 → length (wanted g) < 2 ^ 64
 few_wanted g i o n m k =
     let ins : length (want_inputs g) ≡ length (enumerate_from 0 g.ports.inputs) = length-map (enumerate_from 0 g.ports.inputs) want_input in
     let ins' : length (enumerate_from 0 g.ports.inputs) ≡ length g.ports.inputs = length-enumerate_from 0 g.ports.inputs in
@@ -61,6 +62,7 @@ few_wanted g i o n m k =
     let e : _ = length-append (want_instances g) (want_cells g) in
     omega arith
 
-pub taken_all : AreMangled → (g : Graph) → length g.ports.inputs ≤ 4294967296 → length g.ports.outputs ≤ 4294967296 → length g.nodes ≤ 4294967296 → length g.memories ≤ 4294967296 → length g.instances ≤ 4294967296
+pub taken_all : AreMangled → (g : Graph) → length g.ports.inputs ≤ 4294967296 → length g.ports.outputs ≤ 4294967296 → length g.nodes ≤ 4294967296
+    → length g.memories ≤ 4294967296 → length g.instances ≤ 4294967296
     → (given : List (Named × List ℕ)) × Takes [] (wanted g) given
 taken_all mangled g i o n m k = let few : length (wanted g) < 2 ^ 64 = few_wanted g i o n m k in taken mangled [] (wanted g) (omega (arith, few))

@@ -46,7 +46,8 @@ module _ {X : Type 0} (W : ℕ × X → Given) (xs : List X) (k : ℕ) (x : X) (
   pub wants_cut : (others : Wants) → map W (enumerate_from k (drop k xs)) ++ others ≡ W (k, x) ∷ (map W (enumerate_from (k + 1) (drop (k + 1) xs)) ++ others)
   wants_cut others = ap (λ l. map W (enumerate_from k l) ++ others) (drop_at xs k x at)
 
-  pub passing_cut : (test : ℕ × X → Bool) (start : ℕ) → test (start + k, x) ≡ true → map W (filter test (enumerate_from (start + k) (drop k xs))) ≡ W (start + k, x) ∷ map W (filter test (enumerate_from (start + (k + 1)) (drop (k + 1) xs)))
+  pub passing_cut : (test : ℕ × X → Bool) (start : ℕ) → test (start + k, x) ≡ true
+      → map W (filter test (enumerate_from (start + k) (drop k xs))) ≡ W (start + k, x) ∷ map W (filter test (enumerate_from (start + (k + 1)) (drop (k + 1) xs)))
   passing_cut test start passes =
       ap (λ l. map W (filter test (enumerate_from (start + k) l))) (drop_at xs k x at)
       ∙ rw passes (ap (λ n. W (start + k, x) ∷ map W (filter test (enumerate_from n (drop (k + 1) xs)))) (let s : start + k + 1 ≡ start + (k + 1) = omega arith in s))
@@ -57,5 +58,6 @@ pairs_cut W xs k x others at = ap (λ l. map W l ++ others) (drop_at xs k x at)
 pub pairs_over : {X : Type 0} (W : X → Given) (xs : List X) (k : ℕ) (others : Wants) → length xs ≤ k → map W (drop k xs) ++ others ≡ others
 pairs_over W xs k others le = ap (λ l. map W l ++ others) (drop_all xs k le)
 
-pub filled_as : {want want' : List ℕ} (used used' : List (List ℕ)) (slots slots' : List (Option (List ℕ))) (at : ℕ) → want ≡ want' → IsFilled want used used' slots slots' at → IsFilled want' used used' slots slots' at
+pub filled_as : {want want' : List ℕ} (used used' : List (List ℕ)) (slots slots' : List (Option (List ℕ))) (at : ℕ) → want ≡ want'
+    → IsFilled want used used' slots slots' at → IsFilled want' used used' slots slots' at
 filled_as used used' slots slots' at e f = subst (λ w. IsFilled w used used' slots slots' at) e f

@@ -53,7 +53,8 @@ id_of : Named → NodeId
 id_of (vertex (node n)) = record { 0 = n }
 id_of other = record { 0 = 0 }
 
-output_key : (ids : List NodeId) (ports : List Port) (z : Named) → Has (keys (map (λ (p : NodeId × Port). (vertex (node p.0.0), p.1.name)) (zip ids ports))) z → (id : NodeId) × Has ids id × (z ≡ vertex (node id.0))
+output_key : (ids : List NodeId) (ports : List Port) (z : Named) → Has (keys (map (λ (p : NodeId × Port). (vertex (node p.0.0), p.1.name)) (zip ids ports))) z
+    → (id : NodeId) × Has ids id × (z ≡ vertex (node id.0))
 output_key [] ports z h = elim h [ ]
 output_key (id ∷ ids) [] z h = elim h [ ]
 output_key (id ∷ ids) (p ∷ ports) _ first = (id, first, refl)
@@ -64,7 +65,8 @@ place_of [] x h = elim h [ ]
 place_of (y ∷ xs) _ first = (0, refl)
 place_of (y ∷ xs) x (later h) = let r : (k : ℕ) × (slice_get xs k ≡ Some x) = place_of xs x h in (suc r.0, r.1)
 
-outputs_different : (ids : List NodeId) (ports : List Port) → ((i j : ℕ) (id : NodeId) → slice_get ids i ≡ Some id → slice_get ids j ≡ Some id → i ≡ j) → AllDifferent (keys (map (λ (p : NodeId × Port). (vertex (node p.0.0), p.1.name)) (zip ids ports)))
+outputs_different : (ids : List NodeId) (ports : List Port) → ((i j : ℕ) (id : NodeId) → slice_get ids i ≡ Some id → slice_get ids j ≡ Some id → i ≡ j)
+    → AllDifferent (keys (map (λ (p : NodeId × Port). (vertex (node p.0.0), p.1.name)) (zip ids ports)))
 unfolding output_key id_of
 outputs_different [] ports own = tt
 outputs_different (id ∷ ids) [] own = tt
@@ -100,7 +102,8 @@ output_late g lawful canonical id h =
       | inl e ↦
           (let lt : id.0 < length g.ports.inputs = ltb-true id.0 (first_number g) e in
           let port : slice_get g.ports.inputs id.0 ≡ Some (get_or g.ports.inputs id.0 (record { name = []; width = 0 })) = slice_get-get_or g.ports.inputs id.0 (record { name = []; width = 0 }) lt in
-          let row : slice_get g.nodes id.0 ≡ Some (input_row (get_or g.ports.inputs id.0 (record { name = []; width = 0 })) id.0) = canonical.inputs id.0 (get_or g.ports.inputs id.0 (record { name = []; width = 0 })) port in
+          let row : slice_get g.nodes id.0 ≡ Some (input_row (get_or g.ports.inputs id.0 (record { name = []; width = 0 })) id.0) = canonical.inputs id.0
+          (get_or g.ports.inputs id.0 (record { name = []; width = 0 })) port in
           absurd (no_wire id.0 (lawful.wires id h).1 (ap node_in (sym row ∙ (lawful.wires id h).2) ∙ (lawful.wires id h).3)))
       | inr e ↦ not_below id.0 (first_number g) e
     ]
@@ -153,8 +156,10 @@ module _ (g : Graph) (lawful : IsLawful g) (canonical : IsCanonical g) where
 
   nodes_kind : AllOfKind g 3 (want_nodes g)
   nodes_kind z h =
-      let k : (p : ℕ × NodeRow) × Has (inner_nodes g) p × (z ≡ vertex (node p.0)) = has_mapped (λ (p : ℕ × NodeRow). (vertex (node p.0), unwrap_or p.1.label (node_name g (codes "n") p.0))) (inner_nodes g) z h in
-      let there : Has (numbered_nodes g) k.0 × ((if is_output g k.0.0 then false else true) ≡ true) = has_filter (λ (p : ℕ × NodeRow). if is_output g p.0 then false else true) (numbered_nodes g) k.0 k.1 in
+      let k : (p : ℕ × NodeRow) × Has (inner_nodes g) p × (z ≡ vertex (node p.0)) = has_mapped
+      (λ (p : ℕ × NodeRow). (vertex (node p.0), unwrap_or p.1.label (node_name g (codes "n") p.0))) (inner_nodes g) z h in
+      let there : Has (numbered_nodes g) k.0 × ((if is_output g k.0.0 then false else true) ≡ true) = has_filter (λ (p : ℕ × NodeRow). if is_output g p.0 then false else true)
+      (numbered_nodes g) k.0 k.1 in
       ap (kind g) k.2 ∙ kind_of_late g k.0.0 (rising_number (first_number g) (numbered_nodes g) k.0 nodes_rise there.0) ∙ no_output (is_output g k.0.0) there.1
     where
       no_output : (b : Bool) → (if b then false else true) ≡ true → ◌≡◌ {A = ℕ} (if b then 2 else 3) 3
@@ -163,11 +168,13 @@ module _ (g : Graph) (lawful : IsLawful g) (canonical : IsCanonical g) where
 
   memories_kind : AllOfKind g 4 (want_memories g)
   unfolding kind
-  memories_kind z h = ap (kind g) (rising_key (λ (p : ℕ × Memory). (vertex (mem p.0), unwrap_or p.1.label (codes "m" ++ decimal p.0))) (λ n. vertex (mem n)) (λ p. refl) 0 (enumerate_from 0 g.memories) z (rising_enumerate 0 g.memories) h).2
+  memories_kind z h = ap (kind g) (rising_key (λ (p : ℕ × Memory). (vertex (mem p.0), unwrap_or p.1.label (codes "m" ++ decimal p.0))) (λ n. vertex (mem n)) (λ p. refl) 0
+      (enumerate_from 0 g.memories) z (rising_enumerate 0 g.memories) h).2
 
   instances_kind : AllOfKind g 5 (want_instances g)
   unfolding kind
-  instances_kind z h = ap (kind g) (rising_key (λ (p : ℕ × Instance). (vertex (inst p.0), unwrap_or p.1.label (codes "u" ++ decimal p.0))) (λ n. vertex (inst n)) (λ p. refl) 0 (enumerate_from 0 g.instances) z (rising_enumerate 0 g.instances) h).2
+  instances_kind z h = ap (kind g) (rising_key (λ (p : ℕ × Instance). (vertex (inst p.0), unwrap_or p.1.label (codes "u" ++ decimal p.0))) (λ n. vertex (inst n)) (λ p. refl) 0
+      (enumerate_from 0 g.instances) z (rising_enumerate 0 g.instances) h).2
 
   cells_rise : IsRising (first_number g) (operation_nodes g)
   cells_rise = rising_filter (λ (p : ℕ × NodeRow). is_operation p.1.node) (first_number g) (numbered_nodes g) nodes_rise
@@ -180,18 +187,26 @@ module _ (g : Graph) (lawful : IsLawful g) (canonical : IsCanonical g) where
   pub wanted_different : AllDifferent (keys (wanted g))
   unfolding kind
   wanted_different =
-      let d6 : AllDifferent (keys (want_cells g)) = rising_different (λ (p : ℕ × NodeRow). (cell p.0, node_name g (codes "o") p.0)) (λ n. cell n) (λ p. refl) own_cell (first_number g) (operation_nodes g) cells_rise in
-      let d5 : AllDifferent (keys (want_instances g)) = rising_different (λ (p : ℕ × Instance). (vertex (inst p.0), unwrap_or p.1.label (codes "u" ++ decimal p.0))) (λ n. vertex (inst n)) (λ p. refl) own_inst 0 (enumerate_from 0 g.instances) (rising_enumerate 0 g.instances) in
-      let d4 : AllDifferent (keys (want_memories g)) = rising_different (λ (p : ℕ × Memory). (vertex (mem p.0), unwrap_or p.1.label (codes "m" ++ decimal p.0))) (λ n. vertex (mem n)) (λ p. refl) own_mem 0 (enumerate_from 0 g.memories) (rising_enumerate 0 g.memories) in
-      let d3 : AllDifferent (keys (want_nodes g)) = rising_different (λ (p : ℕ × NodeRow). (vertex (node p.0), unwrap_or p.1.label (node_name g (codes "n") p.0))) (λ n. vertex (node n)) (λ p. refl) own_node (first_number g) (inner_nodes g) (rising_filter (λ (p : ℕ × NodeRow). if is_output g p.0 then false else true) (first_number g) (numbered_nodes g) nodes_rise) in
+      let d6 : AllDifferent (keys (want_cells g)) = rising_different (λ (p : ℕ × NodeRow). (cell p.0, node_name g (codes "o") p.0)) (λ n. cell n) (λ p. refl) own_cell
+      (first_number g) (operation_nodes g) cells_rise in
+      let d5 : AllDifferent (keys (want_instances g)) = rising_different (λ (p : ℕ × Instance). (vertex (inst p.0), unwrap_or p.1.label (codes "u" ++ decimal p.0)))
+      (λ n. vertex (inst n)) (λ p. refl) own_inst 0 (enumerate_from 0 g.instances) (rising_enumerate 0 g.instances) in
+      let d4 : AllDifferent (keys (want_memories g)) = rising_different (λ (p : ℕ × Memory). (vertex (mem p.0), unwrap_or p.1.label (codes "m" ++ decimal p.0)))
+      (λ n. vertex (mem n)) (λ p. refl) own_mem 0 (enumerate_from 0 g.memories) (rising_enumerate 0 g.memories) in
+      let d3 : AllDifferent (keys (want_nodes g)) = rising_different (λ (p : ℕ × NodeRow). (vertex (node p.0), unwrap_or p.1.label (node_name g (codes "n") p.0)))
+      (λ n. vertex (node n)) (λ p. refl) own_node (first_number g) (inner_nodes g)
+      (rising_filter (λ (p : ℕ × NodeRow). if is_output g p.0 then false else true) (first_number g) (numbered_nodes g) nodes_rise) in
       let d2 : AllDifferent (keys (want_outputs g)) = outputs_different g.outputs g.ports.outputs lawful.own_wire in
-      let d1 : AllDifferent (keys (want_inputs g)) = rising_different (λ (p : ℕ × Port). (vertex (node p.0), p.1.name)) (λ n. vertex (node n)) (λ p. refl) own_node 0 (enumerate_from 0 g.ports.inputs) (rising_enumerate 0 g.ports.inputs) in
+      let d1 : AllDifferent (keys (want_inputs g)) = rising_different (λ (p : ℕ × Port). (vertex (node p.0), p.1.name)) (λ n. vertex (node n)) (λ p. refl) own_node 0
+      (enumerate_from 0 g.ports.inputs) (rising_enumerate 0 g.ports.inputs) in
       let a5 : AllAbove g 5 (want_cells g) = all_above g 5 6 (want_cells g) (omega arith) cells_kind in
       let a4 : AllAbove g 4 (want_instances g ++ want_cells g) = above g 4 5 (want_instances g) (want_cells g) (omega arith) instances_kind (lift g 4 5 (want_cells g) (omega arith) a5) in
       let a3 : AllAbove g 3 (want_memories g ++ (want_instances g ++ want_cells g)) = above g 3 4 (want_memories g) _ (omega arith) memories_kind (lift g 3 4 _ (omega arith) a4) in
       let a2 : AllAbove g 2 (want_nodes g ++ (want_memories g ++ (want_instances g ++ want_cells g))) = above g 2 3 (want_nodes g) _ (omega arith) nodes_kind (lift g 2 3 _ (omega arith) a3) in
-      let a1 : AllAbove g 1 (want_outputs g ++ (want_nodes g ++ (want_memories g ++ (want_instances g ++ want_cells g)))) = above g 1 2 (want_outputs g) _ (omega arith) outputs_kind (lift g 1 2 _ (omega arith) a2) in
-      let a0 : AllAbove g 0 (want_inputs g ++ (want_outputs g ++ (want_nodes g ++ (want_memories g ++ (want_instances g ++ want_cells g))))) = above g 0 1 (want_inputs g) _ (omega arith) inputs_kind (lift g 0 1 _ (omega arith) a1) in
+      let a1 : AllAbove g 1 (want_outputs g ++ (want_nodes g ++ (want_memories g ++ (want_instances g ++ want_cells g)))) = above g 1 2 (want_outputs g) _
+      (omega arith) outputs_kind (lift g 1 2 _ (omega arith) a2) in
+      let a0 : AllAbove g 0 (want_inputs g ++ (want_outputs g ++ (want_nodes g ++ (want_memories g ++ (want_instances g ++ want_cells g))))) = above g 0 1 (want_inputs g) _
+      (omega arith) inputs_kind (lift g 0 1 _ (omega arith) a1) in
       let e5 = before g 5 (want_instances g) (want_cells g) instances_kind a5 d5 d6 in
       let e4 = before g 4 (want_memories g) (want_instances g ++ want_cells g) memories_kind a4 d4 e5 in
       let e3 = before g 3 (want_nodes g) (want_memories g ++ (want_instances g ++ want_cells g)) nodes_kind a3 d3 e4 in

@@ -27,7 +27,8 @@ tested a b = by (bytes_eq a b) (bytes_eq b a) refl refl
 
 -- bindings before others
 pub look_up_both : (name : List ℕ) (xs ys : Bindings) → look_up name (xs ++ ys) ≡ option_or (look_up name xs) (look_up name ys)
-look_up_both name xs ys = ap (option_map (λ (b : Binding). b.1)) (find-append (λ (b : Binding). bytes_eq b.0 name) xs ys) ∙ of_either (find (λ (b : Binding). bytes_eq b.0 name) xs) (find (λ (b : Binding). bytes_eq b.0 name) ys)
+look_up_both name xs ys = ap (option_map (λ (b : Binding). b.1)) (find-append (λ (b : Binding). bytes_eq b.0 name) xs ys) ∙ of_either (find (λ (b : Binding). bytes_eq b.0 name) xs)
+    (find (λ (b : Binding). bytes_eq b.0 name) ys)
   where
     of_either : (p q : Option Binding) → option_map (λ (b : Binding). b.1) (option_or p q) ≡ option_or (option_map (λ (b : Binding). b.1) p) (option_map (λ (b : Binding). b.1) q)
     of_either None q = refl

@@ -67,9 +67,11 @@ abbrev pub FlatAreLawful : Type 0
 FlatAreLawful = (t : Tree) → IsWhole t → AreAllChecked t → total nodes_in t ≤ 4294967296 → total memories_in t ≤ 4294967296 → IsLawful (flat_graph t)
 
 abbrev pub TreesHaveTexts : Type 0
-TreesHaveTexts = (t : Tree) (modules : ℕ → List ℕ) (title : List ℕ) → IsLawful (graph t) → length (graph t).ports.inputs ≤ 4294967296 → length (graph t).ports.outputs ≤ 4294967296 → (text : List ℕ) × IsTreeText t modules title text
+TreesHaveTexts = (t : Tree) (modules : ℕ → List ℕ) (title : List ℕ) → IsLawful (graph t) → length (graph t).ports.inputs ≤ 4294967296 → length (graph t).ports.outputs ≤ 4294967296
+    → (text : List ℕ) × IsTreeText t modules title text
 
-pub flat_text : ((t : Tree) → IsWhole t → AreAllChecked t → IsFlat t (flat_graph t)) → FlatAreLawful → TreesHaveTexts → (t : Tree) (title : List ℕ) → IsWhole t → AreAllChecked t → IsLight t → (text : List ℕ) × IsFlatText t title text
+pub flat_text : ((t : Tree) → IsWhole t → AreAllChecked t → IsFlat t (flat_graph t)) → FlatAreLawful → TreesHaveTexts → (t : Tree) (title : List ℕ) → IsWhole t
+    → AreAllChecked t → IsLight t → (text : List ℕ) × IsFlatText t title text
 flat_text flat lawful texts t title w checked light =
     let l : IsLawful (graph t) = lawful_top t w in
     let c : IsChecked (graph t) = checked [] w in
@@ -77,5 +79,6 @@ flat_text flat lawful texts t title w checked light =
     let memories : total memories_in t ≤ 4294967296 = few_in memories_in memories_weigh t l.few.1 light in
     let ins : length (graph t).ports.inputs ≤ 128 = c.few_inputs in
     let outs : length (graph t).ports.outputs ≤ 128 = c.few_outputs in
-    let text : (text : List ℕ) × IsTreeText (leaf (flat_graph t)) (λ i. []) title text = texts (leaf (flat_graph t)) (λ i. []) title (lawful t w checked nodes memories) (omega (arith, ins)) (omega (arith, outs)) in
+    let text : (text : List ℕ) × IsTreeText (leaf (flat_graph t)) (λ i. []) title text = texts (leaf (flat_graph t)) (λ i. []) title (lawful t w checked nodes memories)
+    (omega (arith, ins)) (omega (arith, outs)) in
     (text.0, (flat_graph t, flat t w checked, text.1))

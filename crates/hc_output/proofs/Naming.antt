@@ -31,7 +31,8 @@ keeps_name seen (r ∷ rows) row first free =
     ∙ ap (λ b. is_some (cond b (Some r.1) (name_of_entry (first_rows (r.0 ∷ seen) rows) r.0))) ((Decides-eqb r.0.0 r.0.0).1 refl)
 keeps_name seen (r ∷ rows) row (later h) free = by (λ more. keeps_name seen rows row h more) (λ more. keeps_name (r.0 ∷ seen) rows row h more) (is_among r.0 seen) refl
   where
-    other : (b : Bool) → nat_eq row.0.0 r.0.0 ≡ b → (nat_eq row.0.0 r.0.0 ≡ false → IsSome (name_of_entry (first_rows (r.0 ∷ seen) rows) row.0)) → IsSome (cond (nat_eq row.0.0 r.0.0) (Some r.1) (name_of_entry (first_rows (r.0 ∷ seen) rows) row.0))
+    other : (b : Bool) → nat_eq row.0.0 r.0.0 ≡ b → (nat_eq row.0.0 r.0.0 ≡ false → IsSome (name_of_entry (first_rows (r.0 ∷ seen) rows) row.0))
+        → IsSome (cond (nat_eq row.0.0 r.0.0) (Some r.1) (name_of_entry (first_rows (r.0 ∷ seen) rows) row.0))
     other true e more = ap (λ b. is_some (cond b (Some r.1) (name_of_entry (first_rows (r.0 ∷ seen) rows) row.0))) e
     other false e more = ap (λ b. is_some (cond b (Some r.1) (name_of_entry (first_rows (r.0 ∷ seen) rows) row.0))) e ∙ more e
 

@@ -19,7 +19,8 @@ module _ (one_text : (top : Tree) (calls : List NamedTree) (a b : List ℕ) → 
   verilog_once false title e a b whole x y = one_text e.tree (named_calls e.calls) a b x y
   verilog_once true title e a b whole x y = one_flat e.tree title a b whole x y
 
-  pub output_once : (v : Verb) (flat : Bool) (title : List ℕ) (e : Elaborated) (rows : List CycleRow) (a b : List ℕ) → IsWhole e.tree → IsOutput v flat title e rows a → IsOutput v flat title e rows b → a ≡ b
+  pub output_once : (v : Verb) (flat : Bool) (title : List ℕ) (e : Elaborated) (rows : List CycleRow) (a b : List ℕ) → IsWhole e.tree → IsOutput v flat title e rows a
+      → IsOutput v flat title e rows b → a ≡ b
   output_once verb.Verilog flat title e rows a b whole x y = verilog_once flat title e a b whole x y
   output_once verb.Sim flat title e rows a b whole x y = x ∙ sym y
   output_once verb.Both flat title e rows a b whole (s, x, p) (t, y, q) = p ∙ ap (λ (l : List ℕ). l ++ 10 ∷ listing_for e rows) (verilog_once flat title e s t whole x y) ∙ sym q

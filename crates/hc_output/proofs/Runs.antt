@@ -57,11 +57,13 @@ abbrev HaveStarts : Type 0
 HaveStarts = (t : Tree) → IsWhole t → (state : State) × IsInitialState t state
 
 abbrev FlatAlike : Type 0
-FlatAlike = (t : Tree) (g : Graph) → IsFlat t g → IsWhole t → ¬ HasCombLoop t → (state other : State) → IsInitialState t state → IsInitialState (leaf g) other → (inputs : List ℕ) (count : ℕ) (steps : List Step) (rows : List CycleRow)
+FlatAlike = (t : Tree) (g : Graph) → IsFlat t g → IsWhole t → ¬ HasCombLoop t → (state other : State) → IsInitialState t state → IsInitialState (leaf g) other
+    → (inputs : List ℕ) (count : ℕ) (steps : List Step) (rows : List CycleRow)
     → Trace (leaf g) other inputs count steps rows → Trace t state inputs count steps rows
 
 abbrev SameAlike : Type 0
-SameAlike = (s t : Tree) → Same s t → IsWhole s → IsWhole t → ¬ HasCombLoop s → (state other : State) → IsInitialState s state → IsInitialState t other → (inputs : List ℕ) (count : ℕ) (steps : List Step) (rows : List CycleRow)
+SameAlike = (s t : Tree) → Same s t → IsWhole s → IsWhole t → ¬ HasCombLoop s → (state other : State) → IsInitialState s state → IsInitialState t other
+    → (inputs : List ℕ) (count : ℕ) (steps : List Step) (rows : List CycleRow)
     → Trace s state inputs count steps rows → Trace t other inputs count steps rows
 
 -- a run of the elaborated design
@@ -71,7 +73,8 @@ design_runs have entries hier e steps for free are =
     have e.tree for.whole free steps (subst (λ (p : Ports). AreStepsFor p.inputs steps) (sym (same_ports _ _ for.top)) are)
 
 -- a run of the flattened circuit is one of the elaborated design
-pub flat_runs : HaveRuns → HaveStarts → FlatAlike → SameAlike → (entries : List FormView) (hier : Hier) (g : Graph) (e : Elaborated) (steps : List Step) → IsLawful g → IsFlatOf entries hier g → IsHierarchyFor entries hier e
+pub flat_runs : HaveRuns → HaveStarts → FlatAlike → SameAlike → (entries : List FormView) (hier : Hier) (g : Graph) (e : Elaborated) (steps : List Step) → IsLawful g
+    → IsFlatOf entries hier g → IsHierarchyFor entries hier e
     → AreStepsFor (graph (unfolding_of entries (hier_view hier).own.entry)).ports.inputs steps → (rows : List CycleRow) × IsRun (leaf g) steps rows × IsRun e.tree steps rows
 flat_runs have starts flat same entries hier g e steps lawful is for are =
     let unfolded : Tree = unfolding_of entries (hier_view hier).own.entry in
@@ -81,7 +84,8 @@ flat_runs have starts flat same entries hier g e steps lawful is for are =
     let top : (state : State) × IsInitialState e.tree state = starts e.tree for.whole in
     let inputs : initial_inputs (leaf g) ≡ initial_inputs e.tree = inputs_alike (leaf g) e.tree (same_ports unfolded e.tree for.top ∙ sym is.flat.ports) in
     let there : Trace unfolded mid.0 (initial_inputs (leaf g)) 0 steps run.0 = flat unfolded g is.flat is.whole is.free mid.0 run.1.0 mid.1 run.1.1 (initial_inputs (leaf g)) 0 steps run.0 run.1.2 in
-    let here : Trace e.tree top.0 (initial_inputs (leaf g)) 0 steps run.0 = same unfolded e.tree for.top is.whole for.whole is.free mid.0 top.0 mid.1 top.1 (initial_inputs (leaf g)) 0 steps run.0 there in
+    let here : Trace e.tree top.0 (initial_inputs (leaf g)) 0 steps run.0 = same unfolded e.tree for.top is.whole for.whole is.free mid.0 top.0 mid.1 top.1
+    (initial_inputs (leaf g)) 0 steps run.0 there in
     (run.0, run.1, (top.0, top.1, subst (λ (i : List ℕ). Trace e.tree top.0 i 0 steps run.0) inputs here))
 
 -- the listing of the run of the flattened circuit is for the ports of the design
@@ -95,9 +99,11 @@ pub sim_listing : (items : List ℕ) (g : Graph) (e : Elaborated) (rows : List C
 sim_listing items g e rows empty same = ap (λ (p : Ports). listing p.outputs rows) (sym same) ∙ ap (λ (l : List ℕ). l ++ listing g.ports.outputs rows) (sym empty)
 
 -- a text, an empty line and the listing
-pub both_listing : (text items : List ℕ) (g : Graph) (e : Elaborated) (rows : List CycleRow) → items ≡ text ++ 10 ∷ [] → g.ports ≡ (graph e.tree).ports → text ++ 10 ∷ listing_for e rows ≡ items ++ listing g.ports.outputs rows
+pub both_listing : (text items : List ℕ) (g : Graph) (e : Elaborated) (rows : List CycleRow) → items ≡ text ++ 10 ∷ [] → g.ports ≡ (graph e.tree).ports
+    → text ++ 10 ∷ listing_for e rows ≡ items ++ listing g.ports.outputs rows
 both_listing text items g e rows is same =
-    ap (λ (p : Ports). text ++ 10 ∷ listing p.outputs rows) (sym same) ∙ sym (append_assoc text (10 ∷ []) (listing g.ports.outputs rows)) ∙ ap (λ (l : List ℕ). l ++ listing g.ports.outputs rows) (sym is)
+    ap (λ (p : Ports). text ++ 10 ∷ listing p.outputs rows) (sym same) ∙ sym (append_assoc text (10 ∷ []) (listing g.ports.outputs rows))
+    ∙ ap (λ (l : List ℕ). l ++ listing g.ports.outputs rows) (sym is)
 
 -- the lines of `gen`
 digests_joined : (summary a b : List ℕ) → summary ++ (a ++ (b ++ [])) ≡ (summary ++ a) ++ b
@@ -118,7 +124,9 @@ gen_listing flat title items g e rows (summary, text, is, of, shown) same =
 
 -- ---- the flattened circuit
 
-pub flat_made : {F : Type 0} (entries : List FormView) (hier : Hier) (r : Result Graph F) → IsWhole (unfolding_of entries (hier_view hier).own.entry) → ¬ HasCombLoop (unfolding_of entries (hier_view hier).own.entry)
-    → IfOk r (λ c. IsFlat (unfolding_of entries (hier_view hier).own.entry) c) → IfOk r (λ c. c.instances ≡ []) → IfOk r (λ c. IsChecked c) → IfOk r (λ c. ¬ HasCombLoop (leaf c)) → IfOk r (λ c. IsFlatOf entries hier c)
+pub flat_made : {F : Type 0} (entries : List FormView) (hier : Hier) (r : Result Graph F) → IsWhole (unfolding_of entries (hier_view hier).own.entry)
+    → ¬ HasCombLoop (unfolding_of entries (hier_view hier).own.entry)
+    → IfOk r (λ c. IsFlat (unfolding_of entries (hier_view hier).own.entry) c) → IfOk r (λ c. c.instances ≡ []) → IfOk r (λ c. IsChecked c) → IfOk r (λ c. ¬ HasCombLoop (leaf c))
+    → IfOk r (λ c. IsFlatOf entries hier c)
 flat_made entries hier (Ok g) whole free flat instances checked no_loop = record { flat = flat; whole = whole; free = free; checked = checked; instances = instances; no_loop = no_loop }
 flat_made entries hier (Err e) whole free flat instances checked no_loop = tt

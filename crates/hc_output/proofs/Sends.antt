@@ -59,20 +59,24 @@ front_of_both a b c text more whole (rest, (front, is, some)) =
     (rest, (text ++ front, ap (λ l. text ++ l) is ∙ sym (append_assoc text front rest), Appends-trans a b c text front whole some))
 
 -- the second part in other words
-pub front_of_pair : {T E : Type 0} (r : Result T E) (a b : Option (List ℕ)) (text more other : List ℕ) → more ≡ other → OnErr r (AppendsFront a b (text ++ more)) → OnErr r (AppendsFront a b (text ++ other))
+pub front_of_pair : {T E : Type 0} (r : Result T E) (a b : Option (List ℕ)) (text more other : List ℕ) → more ≡ other → OnErr r (AppendsFront a b (text ++ more))
+    → OnErr r (AppendsFront a b (text ++ other))
 front_of_pair r a b text more other e h = subst (λ (l : List ℕ). OnErr r (AppendsFront a b (text ++ l))) e h
 
 -- what is written of a listing, where its form is known
-pub written_ok : {T E : Type 0} (r : Result T E) (f known : ListingForm) (a b : Option (List ℕ)) (text rows : List ℕ) → f ≡ known → OnOk r (Appends a b (text ++ written_listing known rows)) → OnOk r (Appends a b (text ++ written_listing f rows))
+pub written_ok : {T E : Type 0} (r : Result T E) (f known : ListingForm) (a b : Option (List ℕ)) (text rows : List ℕ) → f ≡ known
+    → OnOk r (Appends a b (text ++ written_listing known rows)) → OnOk r (Appends a b (text ++ written_listing f rows))
 written_ok r f known a b text rows e h = subst (λ (x : ListingForm). OnOk r (Appends a b (text ++ written_listing x rows))) (sym e) h
 
-pub written_front : (f known : ListingForm) (a b : Option (List ℕ)) (text rows : List ℕ) → f ≡ known → AppendsFront a b (text ++ written_listing known rows) → AppendsFront a b (text ++ written_listing f rows)
+pub written_front : (f known : ListingForm) (a b : Option (List ℕ)) (text rows : List ℕ) → f ≡ known → AppendsFront a b (text ++ written_listing known rows)
+    → AppendsFront a b (text ++ written_listing f rows)
 written_front f known a b text rows e h = subst (λ (x : ListingForm). AppendsFront a b (text ++ written_listing x rows)) (sym e) h
 
 -- ---- a run from the start
 
 abbrev SameAlike : Type 0
-SameAlike = (s t : Tree) → Same s t → IsWhole s → IsWhole t → ¬ HasCombLoop s → (state other : State) → IsInitialState s state → IsInitialState t other → (inputs : List ℕ) (count : ℕ) (steps : List Step) (rows : List CycleRow)
+SameAlike = (s t : Tree) → Same s t → IsWhole s → IsWhole t → ¬ HasCombLoop s → (state other : State) → IsInitialState s state → IsInitialState t other
+    → (inputs : List ℕ) (count : ℕ) (steps : List Step) (rows : List CycleRow)
     → Trace s state inputs count steps rows → Trace t other inputs count steps rows
 
 abbrev PartsAreFronts : Type 0
@@ -83,10 +87,12 @@ module _ (alike : SameAlike) (fronts : PartsAreFronts) where
   -- a run has the rows that a simulator at the start gives
   trace_of_run : (sim : Simulation) (steps : List Step) (rows : List CycleRow) → IsSimulation sim → IsAtStart sim → IsRun sim.tree steps rows → Trace sim.tree sim.state sim.inputs 0 steps rows
   trace_of_run sim steps rows is begun (state, initial, run) =
-      let here : Trace sim.tree sim.state (initial_inputs sim.tree) 0 steps rows = alike sim.tree sim.tree (same-refl sim.tree) is.whole is.whole is.no_loop state sim.state initial begun.state (initial_inputs sim.tree) 0 steps rows run in
+      let here : Trace sim.tree sim.state (initial_inputs sim.tree) 0 steps rows = alike sim.tree sim.tree (same-refl sim.tree) is.whole is.whole is.no_loop state sim.state initial
+      begun.state (initial_inputs sim.tree) 0 steps rows run in
       subst (λ (i : List ℕ). Trace sim.tree sim.state i 0 steps rows) (sym begun.inputs) here
 
-  pub front_of_run : (sim : Simulation) (g : Graph) (ports : Ports) (steps : List Step) (rows : List CycleRow) (out : List ℕ) (old new : Option (List ℕ)) → sim.tree ≡ leaf g → ports ≡ g.ports → IsSimulation sim → IsAtStart sim → IsRun (leaf g) steps rows
+  pub front_of_run : (sim : Simulation) (g : Graph) (ports : Ports) (steps : List Step) (rows : List CycleRow) (out : List ℕ) (old new : Option (List ℕ))
+      → sim.tree ≡ leaf g → ports ≡ g.ports → IsSimulation sim → IsAtStart sim → IsRun (leaf g) steps rows
       → out ≡ listing g.ports.outputs rows → IsPartListed ports.outputs sim 0 steps old new → AppendsFront old new out
   front_of_run sim g ports steps rows out old new tree same is begun run out_is part =
       let here : IsRun sim.tree steps rows = subst (λ (t : Tree). IsRun t steps rows) (sym tree) run in
@@ -95,16 +101,19 @@ module _ (alike : SameAlike) (fronts : PartsAreFronts) where
 
 -- ---- a text, and what is written of the listing after it
 
-listing_after : (text : List ℕ) (o : Option Played) (p : Played) (out : List ℕ) → o ≡ Some p → IsWithListing text o out → (rows : List ℕ) × IsListing p rows × (out ≡ text ++ written_listing p.form rows)
+listing_after : (text : List ℕ) (o : Option Played) (p : Played) (out : List ℕ) → o ≡ Some p → IsWithListing text o out
+    → (rows : List ℕ) × IsListing p rows × (out ≡ text ++ written_listing p.form rows)
 listing_after text o p out some is = subst (λ (q : Option Played). IsWithListing text q out) some is
 
-pub sent_listing : {T E : Type 0} (r : Result T E) (sent text : List ℕ) (o : Option Played) (p : Played) (out : List ℕ) (old new : Option (List ℕ)) → sent ≡ text → o ≡ Some p → IsWithListing text o out
+pub sent_listing : {T E : Type 0} (r : Result T E) (sent text : List ℕ) (o : Option Played) (p : Played) (out : List ℕ) (old new : Option (List ℕ)) → sent ≡ text
+    → o ≡ Some p → IsWithListing text o out
     → ((rows : List ℕ) → IsListing p rows → OnOk r (Appends old new (sent ++ written_listing p.form rows))) → OnOk r (Appends old new out)
 sent_listing r sent text o p out old new same some is all =
     let l = listing_after text o p out some is in
     subst (λ (b : List ℕ). OnOk r (Appends old new b)) (ap (λ (t : List ℕ). t ++ written_listing p.form l.0) same ∙ sym l.2) (all l.0 l.1)
 
-pub sent_listing_front : {T E : Type 0} (r : Result T E) (k : E) (sent text : List ℕ) (o : Option Played) (p : Played) (out : List ℕ) (old new : Option (List ℕ)) → sent ≡ text → o ≡ Some p → IsWithListing text o out
+pub sent_listing_front : {T E : Type 0} (r : Result T E) (k : E) (sent text : List ℕ) (o : Option Played) (p : Played) (out : List ℕ) (old new : Option (List ℕ))
+    → sent ≡ text → o ≡ Some p → IsWithListing text o out
     → ((rows : List ℕ) → IsListing p rows → IsErrOf r k → AppendsFront old new (sent ++ written_listing p.form rows)) → IsErrOf r k → AppendsFront old new out
 sent_listing_front r k sent text o p out old new same some is front of =
     let l = listing_after text o p out some is in

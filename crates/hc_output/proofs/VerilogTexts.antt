@@ -31,7 +31,8 @@ from_named (x ∷ calls) c (later has) = let y : (x : ElaboratedCall) × Has cal
 -- ---- the text
 
 abbrev pub HierarchiesHaveTexts : Type 0
-HierarchiesHaveTexts = (top : Tree) (calls : List NamedTree) → length calls < 2 ^ 64 → ((call : NamedTree) → Has calls call → IsWritable calls call) → (((text : List ℕ) × IsVerilog top calls text) → ⊥) → ⊥
+HierarchiesHaveTexts = (top : Tree) (calls : List NamedTree) → length calls < 2 ^ 64 → ((call : NamedTree) → Has calls call → IsWritable calls call)
+    → (((text : List ℕ) × IsVerilog top calls text) → ⊥) → ⊥
 
 lawful_top : (t : Tree) → IsWhole t → IsLawful (graph t)
 lawful_top none w = absurd w

@@ -52,11 +52,13 @@ module _ (d : Design) (answers : HaveAnswers d) (have_children : HaveChildren d)
   AreCalls children = (i : ℕ) (child : Child) → slice_get children i ≡ Some child → IsCall d child.call
 
   -- a child that ended without a fault, and what comes after it
-  after_kid : (level : ℕ) (path : Path) (sums : Sums) (child : Child) (more : List Child) → level < most_levels → (kid : Elaborated) (done : List FinishedCall) → Elaborates L d (suc level) (child_path path child.ident) child.call done (Ok kid)
+  after_kid : (level : ℕ) (path : Path) (sums : Sums) (child : Child) (more : List Child) → level < most_levels → (kid : Elaborated) (done : List FinishedCall)
+      → Elaborates L d (suc level) (child_path path child.ident) child.call done (Ok kid)
       → ((s : Sums) → NotNot (AllTold level path s more)) → NotNot (AllTold level path sums (child ∷ more))
   after_kid level path sums child more above kid done own rest = by (limit_passed (plus sums kid.sums)) refl
     where
-      joined : limit_passed (plus sums kid.sums) ≡ None → (inner : List FinishedCall) (r : Result (Sums × List Elaborated) Fault) → ElaborateChildren L d level path (plus sums kid.sums) more inner r → AllTold level path sums (child ∷ more)
+      joined : limit_passed (plus sums kid.sums) ≡ None → (inner : List FinishedCall) (r : Result (Sums × List Elaborated) Fault)
+          → ElaborateChildren L d level path (plus sums kid.sums) more inner r → AllTold level path sums (child ∷ more)
       joined under inner (Ok all) x = (done ++ inner, Ok (all.0, kid ∷ all.1), one_more kid all.0 all.1 above own under x)
       joined under inner (Err f) x = (done ++ inner, Err f, later_fault kid f above own under x)
 
@@ -64,7 +66,8 @@ module _ (d : Design) (answers : HaveAnswers d) (have_children : HaveChildren d)
       by (Some kind) past = surely (done, Err (fault_at path kind child.line), past_limit kid kind above own past)
       by None under = surely_then (rest (plus sums kid.sums)) (λ (t : AllTold level path (plus sums kid.sums) more). surely (joined under t.0 t.1 t.2))
 
-  children_told : (level : ℕ) (path : Path) → (level < most_levels → (at : Path) (call : Call) → IsCall d call → NotNot (Told (suc level) at call)) → (children : List Child) → AreCalls children → (sums : Sums) → NotNot (AllTold level path sums children)
+  children_told : (level : ℕ) (path : Path) → (level < most_levels → (at : Path) (call : Call) → IsCall d call → NotNot (Told (suc level) at call))
+      → (children : List Child) → AreCalls children → (sums : Sums) → NotNot (AllTold level path sums children)
   children_told level path below [] calls sums = surely ([], Ok (sums, []), no_more)
   children_told level path below (child ∷ more) calls sums = elim (cases_lt level most_levels) [
     | inl above ↦ surely_then (below above (child_path path child.ident) child.call (calls zero child refl))
@@ -72,14 +75,18 @@ module _ (d : Design) (answers : HaveAnswers d) (have_children : HaveChildren d)
     | inr deep ↦ surely ([], Err (fault_at path TooDeep child.line), too_deep deep)
   ]
     where
-      told_so : level < most_levels → (done : List FinishedCall) (r : Result Elaborated Fault) → Elaborates L d (suc level) (child_path path child.ident) child.call done r → ((s : Sums) → NotNot (AllTold level path s more)) → NotNot (AllTold level path sums (child ∷ more))
+      told_so : level < most_levels → (done : List FinishedCall) (r : Result Elaborated Fault)
+          → Elaborates L d (suc level) (child_path path child.ident) child.call done r → ((s : Sums) → NotNot (AllTold level path s more))
+          → NotNot (AllTold level path sums (child ∷ more))
       told_so above done (Ok kid) own rest = after_kid level path sums child more above kid done own rest
       told_so above done (Err f) own rest = surely (done, Err f, fault_in_child f above own)
 
-  call_told : (level : ℕ) (path : Path) (call : Call) → IsCall d call → (level < most_levels → (at : Path) (other : Call) → IsCall d other → NotNot (Told (suc level) at other)) → NotNot (Told level path call)
+  call_told : (level : ℕ) (path : Path) (call : Call) → IsCall d call
+      → (level < most_levels → (at : Path) (other : Call) → IsCall d other → NotNot (Told (suc level) at other)) → NotNot (Told level path call)
   call_told level path call (c, of) below = by (answers c call.args path)
     where
-      with_children : (b : Body) → BodyOf d c call.args path (Ok b) → b.words ≤ most_words → (done : List FinishedCall) (r : Result (Sums × List Elaborated) Fault) → ElaborateChildren L d level path (own_sums b) b.children done r → NotNot (Told level path call)
+      with_children : (b : Body) → BodyOf d c call.args path (Ok b) → b.words ≤ most_words → (done : List FinishedCall) (r : Result (Sums × List Elaborated) Fault)
+          → ElaborateChildren L d level path (own_sums b) b.children done r → NotNot (Told level path call)
       with_children b body words done (Err f) x = surely (done, Err f, child_fault c b f of body words x)
       with_children b body words done (Ok all) x = surely_then (decided (L (body_tree b all.1))) (λ (t : L (body_tree b all.1) ⊎ (L (body_tree b all.1) → ⊥)). elim t [
         | inl loop ↦ surely (done, Err (fault_at path CombLoop 0), comb_loop c b all.0 all.1 of body words x loop)
@@ -89,7 +96,8 @@ module _ (d : Design) (answers : HaveAnswers d) (have_children : HaveChildren d)
       with_body : (b : Body) → BodyOf d c call.args path (Ok b) → NotNot (Told level path call)
       with_body b body = elim (cases_lt most_words b.words) [
         | inl many ↦ surely ([], Err (fault_at path DesignWords c.line), many_words c b of body many)
-        | inr few ↦ surely_then (children_told level path below b.children (have_children c call.args path b body).calls (own_sums b)) (λ (t : AllTold level path (own_sums b) b.children). with_children b body few t.0 t.1 t.2)
+        | inr few ↦ surely_then (children_told level path below b.children (have_children c call.args path b body).calls (own_sums b))
+            (λ (t : AllTold level path (own_sums b) b.children). with_children b body few t.0 t.1 t.2)
       ]
 
       by : (r : Result Body Fault) × BodyOf d c call.args path r → NotNot (Told level path call)

@@ -41,21 +41,24 @@ has_shuffled xs ys shuffled = has_of_all (Has ys) xs (All-permutation (Has ys) y
 -- ---- entries and calls
 
 -- the entry of a turn denotes the tree of a call
-call_of_turn : (entries : List FormView) (ts : List Turn) (cs : List ElaboratedCall) → AreEntriesOf entries (map (λ (t : Turn). t.entry) ts) cs → (t : Turn) → Has ts t → (c : ElaboratedCall) × Has cs c × IsEntryOf entries t.entry c.tree
+call_of_turn : (entries : List FormView) (ts : List Turn) (cs : List ElaboratedCall) → AreEntriesOf entries (map (λ (t : Turn). t.entry) ts) cs → (t : Turn) → Has ts t
+    → (c : ElaboratedCall) × Has cs c × IsEntryOf entries t.entry c.tree
 call_of_turn entries [] cs are t h = elim h [ ]
 call_of_turn entries (u ∷ ts) [] are t h = absurd are
 call_of_turn entries (u ∷ ts) (c ∷ cs) are t first = (c, first, are.0)
 call_of_turn entries (u ∷ ts) (c ∷ cs) are t (later h) = let d = call_of_turn entries ts cs are.1 t h in (d.0, later d.1, d.2)
 
 -- the elaborated call that a call of a hierarchy stands for
-pub call_of_view : (entries : List FormView) (cs : List CallView) (es : List ElaboratedCall) → AreCallsFor entries cs es → (c : CallView) → Has cs c → (e : ElaboratedCall) × Has es e × IsCallFor entries c e
+pub call_of_view : (entries : List FormView) (cs : List CallView) (es : List ElaboratedCall) → AreCallsFor entries cs es → (c : CallView) → Has cs c
+    → (e : ElaboratedCall) × Has es e × IsCallFor entries c e
 call_of_view entries [] es are c h = elim h [ ]
 call_of_view entries (d ∷ cs) [] are c h = absurd are
 call_of_view entries (d ∷ cs) (x ∷ es) are c first = (x, first, are.0)
 call_of_view entries (d ∷ cs) (x ∷ es) are c (later h) = let e = call_of_view entries cs es are.1 c h in (e.0, later e.1, e.2)
 
 -- the call of a hierarchy that stands for an elaborated one
-pub view_of_call : (entries : List FormView) (cs : List CallView) (es : List ElaboratedCall) → AreCallsFor entries cs es → (e : ElaboratedCall) → Has es e → (c : CallView) × Has cs c × IsCallFor entries c e
+pub view_of_call : (entries : List FormView) (cs : List CallView) (es : List ElaboratedCall) → AreCallsFor entries cs es → (e : ElaboratedCall) → Has es e
+    → (c : CallView) × Has cs c × IsCallFor entries c e
 view_of_call entries [] [] are e h = elim h [ ]
 view_of_call entries [] (x ∷ es) are e h = absurd are
 view_of_call entries (c ∷ cs) [] are e h = absurd are
@@ -68,7 +71,8 @@ AreNamed = (h : History) (id : EntryId) → IsLegal h → id.0 < length h.entrie
 abbrev HaveOneEntry : Type 0
 HaveOneEntry = (h : History) (i j : EntryId) (t : Tree) → IsLegal h → i.0 < length h.entries → j.0 < length h.entries → Denotes h.entries i t → Denotes h.entries j t → i ≡ j
 
-pub called : AreNamed → HaveOneEntry → (h : History) (hier : Hier) (e : Elaborated) (firsts order : List ElaboratedCall) → IsLegal h → IsHierarchyFor h.entries hier e → AreDistinct e.calls firsts → IsPermutation order firsts
+pub called : AreNamed → HaveOneEntry → (h : History) (hier : Hier) (e : Elaborated) (firsts order : List ElaboratedCall) → IsLegal h → IsHierarchyFor h.entries hier e
+    → AreDistinct e.calls firsts → IsPermutation order firsts
     → AreEntriesOf h.entries (map (λ (t : Turn). t.entry) h.turns) order → AreCalled h.entries hier
 called named once h hier e firsts order legal for distinct shuffled are id within =
     let turn = named h id legal within in

@@ -59,7 +59,8 @@ more_trees kid kids own rest (suc i) = rest i
 
 module _ (L : Tree → Type 0) (d : Design) where
   mutual
-    tree_of : {level : ℕ} {path : Path} {call : Call} {done : List FinishedCall} {r : Result Elaborated Fault} → Elaborates L d level path call done r → (e : Elaborated) → r ≡ Ok e → IsCheckedTree e.tree
+    tree_of : {level : ℕ} {path : Path} {call : Call} {done : List FinishedCall} {r : Result Elaborated Fault} → Elaborates L d level path call done r → (e : Elaborated)
+        → r ≡ Ok e → IsCheckedTree e.tree
     tree_of (body_fault c f of body) e q = absurd cc
     tree_of (many_words c b of body words) e q = absurd cc
     tree_of (child_fault c b f of body words children) e q = absurd cc
@@ -68,7 +69,8 @@ module _ (L : Tree → Type 0) (d : Design) where
         let same : elaborated_call call c b sums kids ≡ e = cc in
         subst (λ (x : Elaborated). IsCheckedTree x.tree) same (checked_body d c call.args path (Ok b) body b refl, trees_of children sums kids refl)
 
-    trees_of : {level : ℕ} {path : Path} {sums : Sums} {children : List Child} {done : List FinishedCall} {r : Result (Sums × List Elaborated) Fault} → ElaborateChildren L d level path sums children done r → (all : Sums) (kids : List Elaborated) → r ≡ Ok (all, kids) → AreCheckedTrees kids
+    trees_of : {level : ℕ} {path : Path} {sums : Sums} {children : List Child} {done : List FinishedCall} {r : Result (Sums × List Elaborated) Fault}
+        → ElaborateChildren L d level path sums children done r → (all : Sums) (kids : List Elaborated) → r ≡ Ok (all, kids) → AreCheckedTrees kids
     trees_of {level} {path} {sums} no_more all kids q = subst AreCheckedTrees (second sums all [] kids q) no_trees
     trees_of (too_deep l) all kids q = absurd cc
     trees_of (fault_in_child f l x) all kids q = absurd cc

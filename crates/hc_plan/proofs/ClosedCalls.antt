@@ -77,8 +77,13 @@ record AllKids (children : List Child) (kids : List Elaborated) : Type 0 where
   closed : AllClosed kids
 
 module _ (L : Tree → Type 0) (d : Design) (have_children : HaveChildren d) where
-  over : (path : Path) (call : Call) (c : CircuitText) (b : Body) (sums : Sums) (kids : List Elaborated) → BodyOf d c call.args path (Ok b) → AllKids b.children kids → IsClosed (elaborated_call call c b sums kids)
-  over path call c b sums kids body all = record { closed = λ x m i it e. by x (has_either (calls_in kids) (own_call call c b sums kids ∷ []) m) i it e; top = (own_call call c b sums kids, has_right (calls_in kids) first, refl) }
+  over : (path : Path) (call : Call) (c : CircuitText) (b : Body) (sums : Sums) (kids : List Elaborated) → BodyOf d c call.args path (Ok b) → AllKids b.children kids
+      → IsClosed (elaborated_call call c b sums kids)
+  over path call c b sums kids body all = record {
+    closed = λ x m i it e. by x (has_either (calls_in kids) (own_call call c b sums kids ∷ []) m) i it e;
+    top =
+        (own_call call c b sums kids, has_right (calls_in kids) first, refl);
+  }
     where
       of_own : (i : ℕ) (it : Instance) → slice_get b.circuit.instances i ≡ Some it → KidIn (calls_in kids ++ own_call call c b sums kids ∷ []) (own_call call c b sums kids) i
       of_own i it e =
@@ -88,9 +93,11 @@ module _ (L : Tree → Type 0) (d : Design) (have_children : HaveChildren d) whe
           let y : HasTop (calls_in kids) (tree_of_kid (slice_get kids i)) = top_in kids all.closed i (omega (arith, many, count, within)) in
           (y.0, has_left (own_call call c b sums kids ∷ []) y.1, y.2)
 
-      by : (x : ElaboratedCall) → Has (calls_in kids) x ⊎ Has (own_call call c b sums kids ∷ []) x → (i : ℕ) (it : Instance) → slice_get (graph x.tree).instances i ≡ Some it → KidIn (calls_in kids ++ own_call call c b sums kids ∷ []) x i
+      by : (x : ElaboratedCall) → Has (calls_in kids) x ⊎ Has (own_call call c b sums kids ∷ []) x → (i : ℕ) (it : Instance)
+          → slice_get (graph x.tree).instances i ≡ Some it → KidIn (calls_in kids ++ own_call call c b sums kids ∷ []) x i
       by x (inl here) i it e = (let y : KidIn (calls_in kids) x i = closed_in kids all.closed x here i it e in (y.0, has_left (own_call call c b sums kids ∷ []) y.1, y.2))
-      by x (inr last) i it e = subst (λ (z : ElaboratedCall). slice_get (graph z.tree).instances i ≡ Some it → KidIn (calls_in kids ++ own_call call c b sums kids ∷ []) z i) (has_only last) (of_own i it) e
+      by x (inr last) i it e = subst (λ (z : ElaboratedCall). slice_get (graph z.tree).instances i ≡ Some it → KidIn (calls_in kids ++ own_call call c b sums kids ∷ []) z i)
+          (has_only last) (of_own i it) e
 
   mutual
     closed_of : {level : ℕ} {path : Path} {call : Call} {done : List FinishedCall} {r : Result Elaborated Fault} → Elaborates L d level path call done r → (e : Elaborated) → r ≡ Ok e → IsClosed e
@@ -101,7 +108,8 @@ module _ (L : Tree → Type 0) (d : Design) (have_children : HaveChildren d) whe
     closed_of {level} {path} {call} (whole {done = inner} c b sums kids of body words children free) e q =
         let same : elaborated_call call c b sums kids ≡ e = cc in subst IsClosed same (over path call c b sums kids body (all_of children sums kids refl))
 
-    all_of : {level : ℕ} {path : Path} {sums : Sums} {children : List Child} {done : List FinishedCall} {r : Result (Sums × List Elaborated) Fault} → ElaborateChildren L d level path sums children done r → (all : Sums) (kids : List Elaborated) → r ≡ Ok (all, kids) → AllKids children kids
+    all_of : {level : ℕ} {path : Path} {sums : Sums} {children : List Child} {done : List FinishedCall} {r : Result (Sums × List Elaborated) Fault}
+        → ElaborateChildren L d level path sums children done r → (all : Sums) (kids : List Elaborated) → r ≡ Ok (all, kids) → AllKids children kids
     all_of {level} {path} {sums} no_more all kids q = subst (AllKids []) (pair_of sums all [] kids q) (record { many = refl; closed = tt })
     all_of (too_deep l) all kids q = absurd cc
     all_of (fault_in_child f l x) all kids q = absurd cc
@@ -112,5 +120,6 @@ module _ (L : Tree → Type 0) (d : Design) (have_children : HaveChildren d) whe
         let those : AllKids more others = all_of rest total others refl in
         subst (AllKids (child ∷ more)) (pair_of total all (kid ∷ others) kids q) (record { many = ap suc those.many; closed = (own, those.closed) })
 
-  pub closed_calls : {done : List FinishedCall} {e : Elaborated} → DesignFinishes L d done (Ok e) → (x : ElaboratedCall) → Has e.calls x → (i : ℕ) (it : Instance) → slice_get (graph x.tree).instances i ≡ Some it → (y : ElaboratedCall) × Has e.calls y × (y.tree ≡ kid x.tree i)
+  pub closed_calls : {done : List FinishedCall} {e : Elaborated} → DesignFinishes L d done (Ok e) → (x : ElaboratedCall) → Has e.calls x → (i : ℕ) (it : Instance)
+      → slice_get (graph x.tree).instances i ≡ Some it → (y : ElaboratedCall) × Has e.calls y × (y.tree ≡ kid x.tree i)
   closed_calls {done} {e} (called call q x) = (closed_of x e refl).closed

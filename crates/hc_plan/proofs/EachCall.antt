@@ -31,7 +31,8 @@ calls_in kids = flat_map (λ (k : Elaborated). k.calls) kids
 
 -- ---- a fact on trees
 
-module _ (L : Tree → Type 0) (d : Design) (P : Tree → Type 0) (holds : (level : ℕ) (path : Path) (call : Call) (done : List FinishedCall) (e : Elaborated) → Elaborates L d level path call done (Ok e) → P e.tree) where
+module _ (L : Tree → Type 0) (d : Design) (P : Tree → Type 0) (holds : (level : ℕ) (path : Path) (call : Call) (done : List FinishedCall) (e : Elaborated)
+    → Elaborates L d level path call done (Ok e) → P e.tree) where
   abbrev HoldsAt : List ElaboratedCall → Type 0
   HoldsAt calls = (x : ElaboratedCall) → Has calls x → P x.tree
 
@@ -48,7 +49,8 @@ module _ (L : Tree → Type 0) (d : Design) (P : Tree → Type 0) (holds : (leve
           | inr last ↦ subst (λ (z : ElaboratedCall). P z.tree) (has_only last) (holds level path call _ (elaborated_call call c b sums kids) (whole c b sums kids of body words children free))
         ])
 
-    each_in : {level : ℕ} {path : Path} {sums : Sums} {children : List Child} {done : List FinishedCall} {r : Result (Sums × List Elaborated) Fault} → ElaborateChildren L d level path sums children done r → (all : Sums) (kids : List Elaborated) → r ≡ Ok (all, kids) → HoldsAt (calls_in kids)
+    each_in : {level : ℕ} {path : Path} {sums : Sums} {children : List Child} {done : List FinishedCall} {r : Result (Sums × List Elaborated) Fault}
+        → ElaborateChildren L d level path sums children done r → (all : Sums) (kids : List Elaborated) → r ≡ Ok (all, kids) → HoldsAt (calls_in kids)
     each_in {level} {path} {sums} no_more all kids q = subst (λ (y : Sums × List Elaborated). HoldsAt (calls_in y.1)) (pair_of sums all [] kids q) (λ x m. elim m [ ])
     each_in (too_deep l) all kids q = absurd cc
     each_in (fault_in_child f l x) all kids q = absurd cc
@@ -69,7 +71,9 @@ module _ (L : Tree → Type 0) (d : Design) (P : Tree → Type 0) (holds : (leve
 under_limit : (s : Sums) → limit_passed s ≡ None → s.instances ≤ 65536
 under_limit s e = by (nat_lt most_instances s.instances) refl e
   where
-    by : (a : Bool) → nat_lt most_instances s.instances ≡ a → ◌≡◌ {A = Option FaultKind} (if a then Some TooManyInstances else if nat_lt most_weight s.weight then Some DesignWeight else if nat_lt most_words s.words then Some DesignWords else None) None → s.instances ≤ 65536
+    by : (a : Bool) → nat_lt most_instances s.instances ≡ a
+        → ◌≡◌ {A = Option FaultKind} (if a then Some TooManyInstances else if nat_lt most_weight s.weight then Some DesignWeight else if nat_lt most_words s.words then Some DesignWords else None) None
+        → s.instances ≤ 65536
     by true is e' = absurd cc
     by false is e' = ltb-false most_instances s.instances is
 
@@ -81,7 +85,8 @@ record AreFew (before all : Sums) (kids : List Elaborated) : Type 0 where
 none_few : (s : Sums) → AreFew s s []
 none_few s = record { many = omega arith; few = inl refl }
 
-more_few : (s all : Sums) (kid : Elaborated) (kids : List Elaborated) → limit_passed (plus s kid.sums) ≡ None → length kid.calls ≤ kid.sums.instances → AreFew (plus s kid.sums) all kids → AreFew s all (kid ∷ kids)
+more_few : (s all : Sums) (kid : Elaborated) (kids : List Elaborated) → limit_passed (plus s kid.sums) ≡ None → length kid.calls ≤ kid.sums.instances
+    → AreFew (plus s kid.sums) all kids → AreFew s all (kid ∷ kids)
 more_few s all kid kids under own rest = record {
   many = (let m : s.instances + kid.sums.instances + length (calls_in kids) ≤ all.instances = rest.many in
       let l : length (kid.calls ++ calls_in kids) ≡ length kid.calls + length (calls_in kids) = length-append kid.calls (calls_in kids) in
@@ -120,14 +125,16 @@ module _ (L : Tree → Type 0) (d : Design) where
         let same : elaborated_call call c b sums kids ≡ e = cc in
         subst IsFew same (few_over call c b sums kids (few_in children sums kids refl))
 
-    few_in : {level : ℕ} {path : Path} {sums : Sums} {children : List Child} {done : List FinishedCall} {r : Result (Sums × List Elaborated) Fault} → ElaborateChildren L d level path sums children done r → (all : Sums) (kids : List Elaborated) → r ≡ Ok (all, kids) → AreFew sums all kids
+    few_in : {level : ℕ} {path : Path} {sums : Sums} {children : List Child} {done : List FinishedCall} {r : Result (Sums × List Elaborated) Fault}
+        → ElaborateChildren L d level path sums children done r → (all : Sums) (kids : List Elaborated) → r ≡ Ok (all, kids) → AreFew sums all kids
     few_in {level} {path} {sums} no_more all kids q = subst (λ (x : Sums × List Elaborated). AreFew sums x.0 x.1) (pair_of sums all [] kids q) (none_few sums)
     few_in (too_deep l) all kids q = absurd cc
     few_in (fault_in_child f l x) all kids q = absurd cc
     few_in (past_limit kid kind l x past) all kids q = absurd cc
     few_in (later_fault kid f l x under rest) all kids q = absurd cc
     few_in {level} {path} {sums} (one_more kid total others l x under rest) all kids q =
-        subst (λ (y : Sums × List Elaborated). AreFew sums y.0 y.1) (pair_of total all (kid ∷ others) kids q) (more_few sums total kid others under (few_of x kid refl).many (few_in rest total others refl))
+        subst (λ (y : Sums × List Elaborated). AreFew sums y.0 y.1) (pair_of total all (kid ∷ others) kids q)
+        (more_few sums total kid others under (few_of x kid refl).many (few_in rest total others refl))
 
   -- a design has few calls
   pub few_calls : {done : List FinishedCall} {e : Elaborated} → DesignFinishes L d done (Ok e) → length e.calls ≤ 65536

@@ -37,7 +37,8 @@ place_in (y ∷ xs) x first = (zero, refl)
 place_in (y ∷ xs) x (later h) = (let r : _ = place_in xs x h in (suc r.0, r.1))
 
 -- the child of a row's kid
-child_of : (rows : List PlanRow) (ks : List ℕ) (cs : List Child) → map (call_at rows) ks ≡ map (λ (c : Child). Some c.call) cs → (i k : ℕ) → slice_get ks i ≡ Some k → (child : Child) × (slice_get cs i ≡ Some child) × (call_at rows k ≡ Some child.call)
+child_of : (rows : List PlanRow) (ks : List ℕ) (cs : List Child) → map (call_at rows) ks ≡ map (λ (c : Child). Some c.call) cs → (i k : ℕ) → slice_get ks i ≡ Some k
+    → (child : Child) × (slice_get cs i ≡ Some child) × (call_at rows k ≡ Some child.call)
 child_of rows [] cs e i k at = absurd cc
 child_of rows (j ∷ ks) [] e i k at = absurd cc
 child_of rows (j ∷ ks) (c ∷ cs) e zero k at = (let same : j ≡ k = ap (λ o. unwrap_or o j) at in (c, refl, ap (call_at rows) (sym same) ∙ heads e))
@@ -67,7 +68,8 @@ module _ (d : Design) (rows : List PlanRow) (stop : Option Fault) (plan : IsPlan
   some_row_height k row at = (let y : (x : FinishedCall) × HasEnded d x × IsRowOf d rows k row x = are k row at in subst (λ n. 1 ≤ n) (y.1.height ∙ sym y.2.height) (some_height never y.1.elaborates))
 
 -- the row of a child is lower
-pub kid_lower : (d : Design) → AreSingle d → AreFixed d → (rows : List PlanRow) (stop : Option Fault) → IsPlanOf d rows stop → (k j : ℕ) (row kid : PlanRow) → slice_get rows k ≡ Some row → Has row.kids j → slice_get rows j ≡ Some kid → kid.height < row.height
+pub kid_lower : (d : Design) → AreSingle d → AreFixed d → (rows : List PlanRow) (stop : Option Fault) → IsPlanOf d rows stop → (k j : ℕ) (row kid : PlanRow)
+    → slice_get rows k ≡ Some row → Has row.kids j → slice_get rows j ≡ Some kid → kid.height < row.height
 kid_lower d single fixed rows stop plan k j row kid at m there =
     let y : (x : FinishedCall) × HasEnded d x × IsRowOf d rows k row x = are d rows stop plan k row at in
     let gave : Elaborates never d y.1.level y.0.path row.call y.1.done (Ok y.1.e) = subst (λ (c : Call). Elaborates never d y.1.level y.0.path c y.1.done (Ok y.1.e)) (sym y.2.call) y.1.elaborates in
@@ -83,7 +85,8 @@ kid_lower d single fixed rows stop plan k j row kid at m there =
     let calls : Some kid.call ≡ Some child.0.call = sym (ap (option_map (λ (r : PlanRow). r.call)) there) ∙ child.2 in
     let called : c.child.call ≡ z.0.own.call = ap (λ (x : Child). x.call) same ∙ sym (ap (λ o. unwrap_or o kid.call) calls) ∙ z.2.call in
     let one : z.1.e ≡ e.0 =
-    same_call never never single fixed z.1.elaborates (suc y.1.level) (child_path y.0.path c.child.ident) c.inner e.0 (subst (λ (x : Call). Elaborates never d (suc y.1.level) (child_path y.0.path c.child.ident) x c.inner (Ok e.0)) called c.elaborates) in
+    same_call never never single fixed z.1.elaborates (suc y.1.level) (child_path y.0.path c.child.ident) c.inner e.0
+    (subst (λ (x : Call). Elaborates never d (suc y.1.level) (child_path y.0.path c.child.ident) x c.inner (Ok e.0)) called c.elaborates) in
     let low : kid.height ≡ e.0.height = z.2.height ∙ sym z.1.height ∙ ap (λ (x : Elaborated). x.height) one in
     let high : row.height ≡ suc (highest (map (λ (x : Elaborated). x.height) w.kids)) = y.2.height ∙ sym y.1.height ∙ ap (λ (x : Elaborated). x.height) w.is in
     let most : e.0.height ≤ highest (map (λ (x : Elaborated). x.height) w.kids) = below_highest w.kids i.0 e.0 e.1 in

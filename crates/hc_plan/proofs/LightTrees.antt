@@ -36,7 +36,9 @@ kids_weight kids i = tree_weight (tree_of_kid (slice_get kids i))
 under_limit : (s : Sums) → limit_passed s ≡ None → s.weight ≤ 4194304
 under_limit s e = by (nat_lt most_instances s.instances) (nat_lt most_weight s.weight) refl e
   where
-    by : (a b : Bool) → nat_lt most_weight s.weight ≡ b → ◌≡◌ {A = Option FaultKind} (if a then Some TooManyInstances else if b then Some DesignWeight else if nat_lt most_words s.words then Some DesignWords else None) None → s.weight ≤ 4194304
+    by : (a b : Bool) → nat_lt most_weight s.weight ≡ b
+        → ◌≡◌ {A = Option FaultKind} (if a then Some TooManyInstances else if b then Some DesignWeight else if nat_lt most_words s.words then Some DesignWords else None) None
+        → s.weight ≤ 4194304
     by true b is e' = absurd cc
     by false true is e' = absurd cc
     by false false is e' = ltb-false most_weight s.weight is
@@ -66,7 +68,8 @@ record AllWeigh (before all : Sums) (children : List Child) (kids : List Elabora
 none_weigh : (s : Sums) → AllWeigh s s [] []
 none_weigh s = record { many = refl; weigh = omega arith; few = inl refl }
 
-more_weigh : (s all : Sums) (child : Child) (more : List Child) (kid : Elaborated) (kids : List Elaborated) → limit_passed (plus s kid.sums) ≡ None → tree_weight kid.tree ≤ kid.sums.weight → AllWeigh (plus s kid.sums) all more kids
+more_weigh : (s all : Sums) (child : Child) (more : List Child) (kid : Elaborated) (kids : List Elaborated) → limit_passed (plus s kid.sums) ≡ None
+    → tree_weight kid.tree ≤ kid.sums.weight → AllWeigh (plus s kid.sums) all more kids
     → (kids ≡ [] → all ≡ plus s kid.sums) → AllWeigh s all (child ∷ more) (kid ∷ kids)
 more_weigh s all child more kid kids under own rest alone = record {
   many = ap suc rest.many;
@@ -92,7 +95,8 @@ pair_of : (s all : Sums) (ks kids : List Elaborated) → ◌≡◌ {A = Result (
 pair_of s all ks kids q = cc
 
 module _ (L : Tree → Type 0) (d : Design) (have_children : HaveChildren d) where
-  over : (path : Path) (call : Call) (c : CircuitText) (b : Body) (sums : Sums) (kids : List Elaborated) → BodyOf d c call.args path (Ok b) → AllWeigh (own_sums b) sums b.children kids → Weighs (elaborated_call call c b sums kids)
+  over : (path : Path) (call : Call) (c : CircuitText) (b : Body) (sums : Sums) (kids : List Elaborated) → BodyOf d c call.args path (Ok b)
+      → AllWeigh (own_sums b) sums b.children kids → Weighs (elaborated_call call c b sums kids)
   over path call c b sums kids body all =
       let many : length b.children ≡ length b.circuit.instances = (have_children c call.args path b body).many in
       let own : graph_weight b.circuit ≤ b.weight = body_weighs d c call.args path (Ok b) body b refl in
@@ -105,7 +109,8 @@ module _ (L : Tree → Type 0) (d : Design) (have_children : HaveChildren d) whe
       }
 
   -- children that are none add nothing
-  alone_sums : {level : ℕ} {path : Path} {sums : Sums} {children : List Child} {done : List FinishedCall} {r : Result (Sums × List Elaborated) Fault} → ElaborateChildren L d level path sums children done r → (all : Sums) → r ≡ Ok (all, []) → all ≡ sums
+  alone_sums : {level : ℕ} {path : Path} {sums : Sums} {children : List Child} {done : List FinishedCall} {r : Result (Sums × List Elaborated) Fault}
+      → ElaborateChildren L d level path sums children done r → (all : Sums) → r ≡ Ok (all, []) → all ≡ sums
   alone_sums {level} {path} {sums} no_more all q = sym (ap (λ (x : Sums × List Elaborated). x.0) (pair_of sums all [] [] q))
   alone_sums (too_deep l) all q = absurd cc
   alone_sums (fault_in_child f l x) all q = absurd cc
@@ -123,7 +128,8 @@ module _ (L : Tree → Type 0) (d : Design) (have_children : HaveChildren d) whe
         let same : elaborated_call call c b sums kids ≡ e = cc in
         subst Weighs same (over path call c b sums kids body (all_weigh children sums kids refl))
 
-    all_weigh : {level : ℕ} {path : Path} {sums : Sums} {children : List Child} {done : List FinishedCall} {r : Result (Sums × List Elaborated) Fault} → ElaborateChildren L d level path sums children done r → (all : Sums) (kids : List Elaborated) → r ≡ Ok (all, kids) → AllWeigh sums all children kids
+    all_weigh : {level : ℕ} {path : Path} {sums : Sums} {children : List Child} {done : List FinishedCall} {r : Result (Sums × List Elaborated) Fault}
+        → ElaborateChildren L d level path sums children done r → (all : Sums) (kids : List Elaborated) → r ≡ Ok (all, kids) → AllWeigh sums all children kids
     all_weigh {level} {path} {sums} no_more all kids q = subst (λ (x : Sums × List Elaborated). AllWeigh sums x.0 [] x.1) (pair_of sums all [] kids q) (none_weigh sums)
     all_weigh (too_deep l) all kids q = absurd cc
     all_weigh (fault_in_child f l x) all kids q = absurd cc
@@ -131,7 +137,8 @@ module _ (L : Tree → Type 0) (d : Design) (have_children : HaveChildren d) whe
     all_weigh (later_fault kid f l x under rest) all kids q = absurd cc
     all_weigh {level} {path} {sums} (one_more {child = child} {more = more} kid total others l x under rest) all kids q =
         subst (λ (y : Sums × List Elaborated). AllWeigh sums y.0 (child ∷ more) y.1) (pair_of total all (kid ∷ others) kids q)
-        (more_weigh sums total child more kid others under (weighs x kid refl).weigh (all_weigh rest total others refl) (λ none. alone_sums rest total (ap (λ ks. (let p : Sums × List Elaborated = (total, ks) in Ok p)) none)))
+        (more_weigh sums total child more kid others under (weighs x kid refl).weigh (all_weigh rest total others refl)
+        (λ none. alone_sums rest total (ap (λ ks. (let p : Sums × List Elaborated = (total, ks) in Ok p)) none)))
 
   pub light_tree : {done : List FinishedCall} {e : Elaborated} → DesignFinishes L d done (Ok e) → ((graph e.tree).instances ≡ []) ⊎ (tree_weight e.tree ≤ 4194304)
   light_tree {done} {e} (called call q x) =

@@ -59,7 +59,8 @@ module _ (d : Design) (lawful : AreLawful d) (have_ports : HavePorts d) (have_ch
   Fits it t = ((graph t).ports ≡ it.ports) × IsWhole t
 
   -- a body over the trees of its children
-  over : (path : Path) (call : Call) (c : CircuitText) (b : Body) (kids : List Elaborated) → IsCallOf d call c → BodyOf d c call.args path (Ok b) → AreTreesOf d b.children kids → IsTreeOf d call (body_tree b kids)
+  over : (path : Path) (call : Call) (c : CircuitText) (b : Body) (kids : List Elaborated) → IsCallOf d call c → BodyOf d c call.args path (Ok b)
+      → AreTreesOf d b.children kids → IsTreeOf d call (body_tree b kids)
   over path call c b kids of body are = record { whole = (lawful c call.args path b body, each); ports = own }
     where
       each : (i : ℕ) (it : Instance) → slice_get b.circuit.instances i ≡ Some it → Fits it (tree_of_kid (slice_get kids i))
@@ -85,7 +86,8 @@ module _ (d : Design) (lawful : AreLawful d) (have_ports : HavePorts d) (have_ch
 
   module _ (L : Tree → Type 0) where
     mutual
-      tree_of : {level : ℕ} {path : Path} {call : Call} {done : List FinishedCall} {r : Result Elaborated Fault} → Elaborates L d level path call done r → (e : Elaborated) → r ≡ Ok e → IsTreeOf d call e.tree
+      tree_of : {level : ℕ} {path : Path} {call : Call} {done : List FinishedCall} {r : Result Elaborated Fault} → Elaborates L d level path call done r
+          → (e : Elaborated) → r ≡ Ok e → IsTreeOf d call e.tree
       tree_of (body_fault c f of body) e q = absurd cc
       tree_of (many_words c b of body words) e q = absurd cc
       tree_of (child_fault c b f of body words children) e q = absurd cc
@@ -94,7 +96,8 @@ module _ (d : Design) (lawful : AreLawful d) (have_ports : HavePorts d) (have_ch
           let same : elaborated_call call c b sums kids ≡ e = cc in
           subst (λ (x : Elaborated). IsTreeOf d call x.tree) same (over path call c b kids of body (trees_of children sums kids refl))
 
-      trees_of : {level : ℕ} {path : Path} {sums : Sums} {children : List Child} {done : List FinishedCall} {r : Result (Sums × List Elaborated) Fault} → ElaborateChildren L d level path sums children done r → (all : Sums) (kids : List Elaborated) → r ≡ Ok (all, kids) → AreTreesOf d children kids
+      trees_of : {level : ℕ} {path : Path} {sums : Sums} {children : List Child} {done : List FinishedCall} {r : Result (Sums × List Elaborated) Fault}
+          → ElaborateChildren L d level path sums children done r → (all : Sums) (kids : List Elaborated) → r ≡ Ok (all, kids) → AreTreesOf d children kids
       trees_of {level} {path} {sums} no_more all kids q = subst (AreTreesOf d []) (second sums all [] kids q) tt
       trees_of (too_deep l) all kids q = absurd cc
       trees_of (fault_in_child f l x) all kids q = absurd cc

@@ -49,28 +49,34 @@ module _ (t : Tree) (state : State) (inputs : List ℕ) (v w : Occurrence → �
   vectors_agree [] a = refl
   vectors_agree (id ∷ ids) a = ap₂ (λ x xs. x ∷ xs) (vector_agrees id (a id first)) (vectors_agree ids (λ i h. a i (later h)))
 
-  passed_down : (i port : ℕ) (o : Option NodeId) → NodeIs t p n (InstOut (record { 0 = i }) port) → slice_get (graph_at t (i ∷ p)).outputs port ≡ o → Agree → optional_value v (i ∷ p) o ≡ optional_value w (i ∷ p) o
+  passed_down : (i port : ℕ) (o : Option NodeId) → NodeIs t p n (InstOut (record { 0 = i }) port) → slice_get (graph_at t (i ∷ p)).outputs port ≡ o → Agree
+      → optional_value v (i ∷ p) o ≡ optional_value w (i ∷ p) o
   passed_down i port None y e a = refl
   passed_down i port (Some id) y e a = a (i ∷ p) id.0 (down port y e)
 
-passed_up : (t : Tree) (state : State) (inputs : List ℕ) (v w : Occurrence → ℕ) (i : ℕ) (p : List ℕ) (n port : ℕ) (o : Option NodeId) → NodeIs t (i ∷ p) n (Input port) → connection (graph_at t p) i port ≡ o → Agree t state inputs v w (i ∷ p) n → optional_value v p o ≡ optional_value w p o
+passed_up : (t : Tree) (state : State) (inputs : List ℕ) (v w : Occurrence → ℕ) (i : ℕ) (p : List ℕ) (n port : ℕ) (o : Option NodeId) → NodeIs t (i ∷ p) n (Input port)
+    → connection (graph_at t p) i port ≡ o → Agree t state inputs v w (i ∷ p) n → optional_value v p o ≡ optional_value w p o
 passed_up t state inputs v w i p n port None y e a = refl
 passed_up t state inputs v w i p n port (Some id) y e a = a p id.0 (up port y e)
 
-input_agrees : (t : Tree) (state : State) (inputs : List ℕ) (v w : Occurrence → ℕ) (p : List ℕ) (n port : ℕ) → NodeIs t p n (Input port) → Agree t state inputs v w p n → input_value t inputs v p port ≡ input_value t inputs w p port
+input_agrees : (t : Tree) (state : State) (inputs : List ℕ) (v w : Occurrence → ℕ) (p : List ℕ) (n port : ℕ) → NodeIs t p n (Input port) → Agree t state inputs v w p n
+    → input_value t inputs v p port ≡ input_value t inputs w p port
 input_agrees t state inputs v w [] n port y a = refl
 input_agrees t state inputs v w (i ∷ p) n port y a = passed_up t state inputs v w i p n port (connection (graph_at t p) i port) y refl a
 
-pub value_agrees : (t : Tree) (state : State) (inputs : List ℕ) (v w : Occurrence → ℕ) (p : List ℕ) (n : ℕ) (x : Node) → NodeIs t p n x → Agree t state inputs v w p n → value t state inputs v p n x ≡ value t state inputs w p n x
+pub value_agrees : (t : Tree) (state : State) (inputs : List ℕ) (v w : Occurrence → ℕ) (p : List ℕ) (n : ℕ) (x : Node) → NodeIs t p n x → Agree t state inputs v w p n
+    → value t state inputs v p n x ≡ value t state inputs w p n x
 value_agrees t st ins v w p n (Input port) y a = input_agrees t st ins v w p n port y a
 value_agrees t st ins v w p n (Wire None) y a = refl
 value_agrees t st ins v w p n (Wire (Some d)) y a = on_operands t st ins v w p n (Wire (Some d)) y a d first
 value_agrees t st ins v w p n (Const c) y a = refl
 value_agrees t st ins v w p n (Two op b c) y a =
-    ap₂ (λ x z. (binary op x z).value) (vector_agrees t st ins v w p n b (on_operands t st ins v w p n (Two op b c) y a b first)) (vector_agrees t st ins v w p n c (on_operands t st ins v w p n (Two op b c) y a c (later first)))
+    ap₂ (λ x z. (binary op x z).value) (vector_agrees t st ins v w p n b (on_operands t st ins v w p n (Two op b c) y a b first))
+    (vector_agrees t st ins v w p n c (on_operands t st ins v w p n (Two op b c) y a c (later first)))
 value_agrees t st ins v w p n (Not b) y a = ap (λ x. (not_ x).value) (vector_agrees t st ins v w p n b (on_operands t st ins v w p n (Not b) y a b first))
 value_agrees t st ins v w p n (Mux sel cases) y a =
-    ap₂ (λ x z. (mux x z).value) (vector_agrees t st ins v w p n sel (on_operands t st ins v w p n (Mux sel cases) y a sel first)) (vectors_agree t st ins v w p n cases (λ i h. on_operands t st ins v w p n (Mux sel cases) y a i (later h)))
+    ap₂ (λ x z. (mux x z).value) (vector_agrees t st ins v w p n sel (on_operands t st ins v w p n (Mux sel cases) y a sel first))
+    (vectors_agree t st ins v w p n cases (λ i h. on_operands t st ins v w p n (Mux sel cases) y a i (later h)))
 value_agrees t st ins v w p n (Cat parts) y a = ap (λ x. (cat_all x).value) (vectors_agree t st ins v w p n parts (on_operands t st ins v w p n (Cat parts) y a))
 value_agrees t st ins v w p n (Select b hi lo) y a = ap (λ x. (select x hi lo).value) (vector_agrees t st ins v w p n b (on_operands t st ins v w p n (Select b hi lo) y a b first))
 value_agrees t st ins v w p n (Reg next enable clear init) y a = refl

@@ -30,7 +30,8 @@ module _ (t : Tree) (old new : State) (inputs others : List ℕ) (vals : Occurre
 
   module _ (plans : List ℕ → List Part) (are : ArePlans t plans) (stale : List ℕ → ℕ → Bool)
       (same : (q : List ℕ) (j m : ℕ) (x : Node) → IsReachedPath t q → stale q j ≡ false → Has (steps_at (plans q) j) (make m) → NodeIs t q m x → IsSameState old new q m x) where
-    step_stays : (q : List ℕ) (j : ℕ) → IsReachedPath t q → stale q j ≡ false → (s : Step) → Has (steps_at (plans q) j) s → IsMeant (graph_at t q) (λ i. graph_at t (i ∷ q)) s → IsBalanced t old inputs vals q s → IsBalanced t new others vals q s
+    step_stays : (q : List ℕ) (j : ℕ) → IsReachedPath t q → stale q j ≡ false → (s : Step) → Has (steps_at (plans q) j) s
+        → IsMeant (graph_at t q) (λ i. graph_at t (i ∷ q)) s → IsBalanced t old inputs vals q s → IsBalanced t new others vals q s
     step_stays q j r u (make m) h c b = λ row e.
         let is : c.1.0 ≡ row.node = same_node (graph_at t q) m c.1.0 row.node c.1.1 (row, e, refl) in
         b row e

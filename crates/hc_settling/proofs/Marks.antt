@@ -21,7 +21,8 @@ module _ (t : Tree) (plans : List ℕ → List Part) (are : ArePlans t plans) (s
     (own : (j : ℕ) → Has (facts (steps_at (plans put.path) j)) (made put.node) → stale put.path j ≡ true)
     (readers : (j : ℕ) → Reads (graph_at t put.path) (plans put.path) j put.node → stale put.path j ≡ true)
     (takers : (i j : ℕ) (q : List ℕ) → put.path ≡ i ∷ q → Takes (λ k. graph_at t (k ∷ q)) (plans q) j i put.node → stale q j ≡ true)
-    (passers : (i j m port : ℕ) (q : List ℕ) → put.path ≡ i ∷ q → NodeIs t put.path put.node (Input port) → IsReachedOccurrence t put → Has (steps_at (plans q) j) (pass m i port) → stale q j ≡ true) where
+    (passers : (i j m port : ℕ) (q : List ℕ) → put.path ≡ i ∷ q → NodeIs t put.path put.node (Input port) → IsReachedOccurrence t put → Has (steps_at (plans q) j) (pass m i port)
+    → stale q j ≡ true) where
   awake : (q : List ℕ) (j : ℕ) → stale q j ≡ false → stale q j ≡ true → ⊥
   awake q j u v = true≢false (sym v ∙ u)
 
@@ -34,8 +35,10 @@ module _ (t : Tree) (plans : List ℕ → List Part) (are : ArePlans t plans) (s
   takers_at : (s : Occurrence) → s ≡ put → (i j : ℕ) (q : List ℕ) → s.path ≡ i ∷ q → Takes (λ k. graph_at t (k ∷ q)) (plans q) j i s.node → stale q j ≡ true
   takers_at s e = subst (λ (z : Occurrence). (i j : ℕ) (q : List ℕ) → z.path ≡ i ∷ q → Takes (λ k. graph_at t (k ∷ q)) (plans q) j i z.node → stale q j ≡ true) (sym e) takers
 
-  passers_at : (s : Occurrence) → s ≡ put → (i j m port : ℕ) (q : List ℕ) → s.path ≡ i ∷ q → NodeIs t s.path s.node (Input port) → IsReachedOccurrence t s → Has (steps_at (plans q) j) (pass m i port) → stale q j ≡ true
-  passers_at s e = subst (λ (z : Occurrence). (i j m port : ℕ) (q : List ℕ) → z.path ≡ i ∷ q → NodeIs t z.path z.node (Input port) → IsReachedOccurrence t z → Has (steps_at (plans q) j) (pass m i port) → stale q j ≡ true) (sym e) passers
+  passers_at : (s : Occurrence) → s ≡ put → (i j m port : ℕ) (q : List ℕ) → s.path ≡ i ∷ q → NodeIs t s.path s.node (Input port) → IsReachedOccurrence t s
+      → Has (steps_at (plans q) j) (pass m i port) → stale q j ≡ true
+  passers_at s e = subst (λ (z : Occurrence). (i j m port : ℕ) (q : List ℕ) → z.path ≡ i ∷ q → NodeIs t z.path z.node (Input port) → IsReachedOccurrence t z
+      → Has (steps_at (plans q) j) (pass m i port) → stale q j ≡ true) (sym e) passers
 
   made_same : (q : List ℕ) (j m : ℕ) → stale q j ≡ false → Has (facts (steps_at (plans q) j)) (made m) → new (at_path q m) ≡ vals (at_path q m)
   made_same q j m u h = same (at_path q m) (λ e. awake q j u (own_at (at_path q m) e j h))
@@ -50,7 +53,8 @@ module _ (t : Tree) (plans : List ℕ → List Part) (are : ArePlans t plans) (s
   operands_same q j m x u h y plain _ k (down port w o) = absurd (subst IsPlain (same_node (graph_at t q) m x (InstOut _ port) y w) plain)
   operands_same _ j m x u h y plain to k (up {path = q'} {i = i} port w o) = absurd (subst IsPlain (same_node (graph_at t (i ∷ q')) m x (Input port) y w) plain)
 
-  step_same : (q : List ℕ) (j : ℕ) → IsReachedPath t q → stale q j ≡ false → (s : Step) → Has (steps_at (plans q) j) s → IsMeant (graph_at t q) (λ i. graph_at t (i ∷ q)) s → IsBalanced t state inputs vals q s → IsBalanced t state inputs new q s
+  step_same : (q : List ℕ) (j : ℕ) → IsReachedPath t q → stale q j ≡ false → (s : Step) → Has (steps_at (plans q) j) s
+      → IsMeant (graph_at t q) (λ i. graph_at t (i ∷ q)) s → IsBalanced t state inputs vals q s → IsBalanced t state inputs new q s
   step_same q j r u (make m) h c b = λ row e.
       made_same q j m u (has_map fact h)
       ∙ b row e
@@ -76,16 +80,20 @@ module _ (t : Tree) (plans : List ℕ → List Part) (are : ArePlans t plans) (s
   marks_stay marked q j r u = ((λ s h. step_same q j r u s h (meant_at t plans are q r j s h) ((marked q j r u).0 s h)), (marked q j r u).1)
 
 -- More parts may be marked, if each part that runs one of them is.
-pub more_marks : (t : Tree) (plans : List ℕ → List Part) (state : State) (inputs : List ℕ) (vals : Occurrence → ℕ) (stale more : List ℕ → ℕ → Bool) → ((p : List ℕ) (part : ℕ) → more p part ≡ false → stale p part ≡ false)
-    → ((p : List ℕ) (part i b : ℕ) → IsReachedPath t p → more p part ≡ false → Has (steps_at (plans p) part) (run i b) → more (i ∷ p) b ≡ false) → AreMarked t plans state inputs vals stale → AreMarked t plans state inputs vals more
+pub more_marks : (t : Tree) (plans : List ℕ → List Part) (state : State) (inputs : List ℕ) (vals : Occurrence → ℕ) (stale more : List ℕ → ℕ → Bool)
+    → ((p : List ℕ) (part : ℕ) → more p part ≡ false → stale p part ≡ false)
+    → ((p : List ℕ) (part i b : ℕ) → IsReachedPath t p → more p part ≡ false → Has (steps_at (plans p) part) (run i b) → more (i ∷ p) b ≡ false)
+    → AreMarked t plans state inputs vals stale → AreMarked t plans state inputs vals more
 more_marks t plans state inputs vals stale more grown closed marked p part r u = ((marked p part r (grown p part u)).0, (λ i b h. closed p part i b r u h))
 
 -- Where an input of an instance is not its connection, each part that passes it is stale.
-module _ (t : Tree) (plans : List ℕ → List Part) (are : ArePlans t plans) (state : State) (inputs : List ℕ) (vals : Occurrence → ℕ) (stale : List ℕ → ℕ → Bool) (marked : AreMarked t plans state inputs vals stale) where
+module _ (t : Tree) (plans : List ℕ → List Part) (are : ArePlans t plans) (state : State) (inputs : List ℕ) (vals : Occurrence → ℕ) (stale : List ℕ → ℕ → Bool)
+    (marked : AreMarked t plans state inputs vals stale) where
   same_id : (a b : NodeId) → ◌≡◌ {A = Option NodeId} (Some a) (Some b) → a ≡ b
   same_id a b e = cc
 
-  pub passers_stale : (q : List ℕ) (i port n : ℕ) (c : NodeId) → IsReachedPath t q → NodeIs t (i ∷ q) n (Input port) → IsReachedOccurrence t (at_path (i ∷ q) n) → connection (graph_at t q) i port ≡ Some c
+  pub passers_stale : (q : List ℕ) (i port n : ℕ) (c : NodeId) → IsReachedPath t q → NodeIs t (i ∷ q) n (Input port) → IsReachedOccurrence t (at_path (i ∷ q) n)
+      → connection (graph_at t q) i port ≡ Some c
       → ¬ (vals (at_path (i ∷ q) n) ≡ vals (at_path q c.0)) → (j m : ℕ) → Has (steps_at (plans q) j) (pass m i port) → stale q j ≡ true
   passers_stale q i port n c r y z e changed j m h = by (stale q j) refl
     where

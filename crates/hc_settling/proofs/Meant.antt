@@ -24,7 +24,8 @@ meant_one g graphs plans known (take n i port) ready = (ready.0, ready.1, (ready
 meant_one g graphs plans known (pass n i port) ready = (ready.0, ready.1)
 meant_one g graphs plans known (run i part) ready = ready.0
 
-meant : (g : Graph) (graphs : ℕ → Graph) (plans : ℕ → List Part) (known : Fact → Type 0) (so_far : List Fact) (steps : List Step) (s : Step) → AreReady g graphs plans known so_far steps → Has steps s → IsMeant g graphs s
+meant : (g : Graph) (graphs : ℕ → Graph) (plans : ℕ → List Part) (known : Fact → Type 0) (so_far : List Fact) (steps : List Step) (s : Step)
+    → AreReady g graphs plans known so_far steps → Has steps s → IsMeant g graphs s
 meant g graphs plans known so_far [] s a h = elim h [ ]
 meant g graphs plans known so_far (z ∷ steps) _ a first = meant_one g graphs plans (λ f. known f ⊎ Has so_far f) z a.0
 meant g graphs plans known so_far (z ∷ steps) s a (later h) = meant g graphs plans known (fact z ∷ so_far) steps s a.1 h

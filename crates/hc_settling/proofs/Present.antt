@@ -60,7 +60,8 @@ module _ (many : ℕ) where
   pub in_present : (table : List (List ℕ)) (k j : ℕ) → Has (row table k) j → j < many → Has (row (map (present many) table) k) j
   in_present table k j h l = subst (λ (xs : List ℕ). Has xs j) (sym (row_present table k)) (has_present (row table k) j h l)
 
-pub are_present : {g : Graph} {graphs : ℕ → Graph} {plans : ℕ → List Part} {plan : List Part} {tables : Tables} → AreTables g graphs plans plan tables → AreTables g graphs plans plan (present_tables (length plan) tables)
+pub are_present : {g : Graph} {graphs : ℕ → Graph} {plans : ℕ → List Part} {plan : List Part} {tables : Tables} → AreTables g graphs plans plan tables
+    → AreTables g graphs plans plan (present_tables (length plan) tables)
 are_present {g = g} {graphs = graphs} {plan = plan} {tables = tables} t = record {
   readers = λ a j n made reads other. in_present (length plan) tables.readers a j (t.readers a j n made reads other) (reader_inside g plan j n reads);
   takers = λ a j i b w ran made takes other. in_present (length plan) tables.takers a j (t.takers a j i b w ran made takes other) (taker_inside graphs plan j i w takes);

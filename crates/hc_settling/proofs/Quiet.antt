@@ -23,14 +23,17 @@ use Rattle.hc_settling.proofs.Steps.{make_right, take_right, pass_right}
 pub known_made : {t : Tree} {plans : List ℕ → List Part} {vals v : Occurrence → ℕ} {p : List ℕ} {n : ℕ} → IsKnown t plans vals v p (made n) → IsRight vals v t (at_path p n)
 known_made (is_made h) = h
 
-pub known_passed : {t : Tree} {plans : List ℕ → List Part} {vals v : Occurrence → ℕ} {p : List ℕ} {i port : ℕ} → IsKnown t plans vals v p (passed i port) → (n : ℕ) → NodeIs t (i ∷ p) n (Input port) → IsRight vals v t (at_path (i ∷ p) n)
+pub known_passed : {t : Tree} {plans : List ℕ → List Part} {vals v : Occurrence → ℕ} {p : List ℕ} {i port : ℕ} → IsKnown t plans vals v p (passed i port) → (n : ℕ)
+    → NodeIs t (i ∷ p) n (Input port) → IsRight vals v t (at_path (i ∷ p) n)
 known_passed (is_passed h) = h
 
-pub known_run : {t : Tree} {plans : List ℕ → List Part} {vals v : Occurrence → ℕ} {p : List ℕ} {i part : ℕ} → IsKnown t plans vals v p (ran i part) → (f : Fact) → Has (facts (steps_at (plans (i ∷ p)) part)) f → IsKnown t plans vals v (i ∷ p) f
+pub known_run : {t : Tree} {plans : List ℕ → List Part} {vals v : Occurrence → ℕ} {p : List ℕ} {i part : ℕ} → IsKnown t plans vals v p (ran i part) → (f : Fact)
+    → Has (facts (steps_at (plans (i ∷ p)) part)) f → IsKnown t plans vals v (i ∷ p) f
 known_run (is_run h) = h
 
 -- What is known stays known where right numbers stay right.
-pub known_stays : {t : Tree} {plans : List ℕ → List Part} {old new v : Occurrence → ℕ} → ((s : Occurrence) → IsRight old v t s → IsRight new v t s) → {p : List ℕ} {f : Fact} → IsKnown t plans old v p f → IsKnown t plans new v p f
+pub known_stays : {t : Tree} {plans : List ℕ → List Part} {old new v : Occurrence → ℕ} → ((s : Occurrence) → IsRight old v t s → IsRight new v t s)
+    → {p : List ℕ} {f : Fact} → IsKnown t plans old v p f → IsKnown t plans new v p f
 known_stays keep (is_made h) = is_made (keep _ h)
 known_stays keep (is_passed h) = is_passed (λ n y. keep _ (h n y))
 known_stays keep (is_run h) = is_run (λ f c. known_stays keep (h f c))
@@ -47,7 +50,8 @@ module _ (t : Tree) (plans : List ℕ → List Part) (state : State) (inputs : L
   constant_right p n c y r = constants p n c y r ∙ sym (ap (λ (z : Node). value t state inputs v p n z) y.2) ∙ sym (settled (at_path p n) y.0 r y.1)
 
   -- Where a part of an instance may run, what it needs is known there.
-  pub begins : (p : List ℕ) (i part : ℕ) → ((k : ℕ) → NeedsInput (plans (i ∷ p)) part k → Known p (passed i k)) → ((b : ℕ) → IsBefore (plans (i ∷ p)) part b → Known p (ran i b)) → BeginsKnown (i ∷ p) part
+  pub begins : (p : List ℕ) (i part : ℕ) → ((k : ℕ) → NeedsInput (plans (i ∷ p)) part k → Known p (passed i k))
+      → ((b : ℕ) → IsBefore (plans (i ∷ p)) part b → Known p (ran i b)) → BeginsKnown (i ∷ p) part
   begins p i part ins runs _ (constant {n = n} c y) = is_made (constant_right (i ∷ p) n c y)
   begins p i part ins runs _ (input {n = n} k y need) = is_made (known_passed (ins k need) n y)
   begins p i part ins runs f (before b is h) = known_run (runs b is) f h
@@ -57,13 +61,16 @@ module _ (t : Tree) (plans : List ℕ → List Part) (state : State) (inputs : L
   operand_reached p n x r y m h = step_reached t (inside x y h) r
 
   -- the number of a node as its operands give it is the right one
-  pub made_right : (p : List ℕ) → IsReachedPath t p → (n : ℕ) → Reached (graph_at t p) (node n) → (x : Node) → NodeAt (graph_at t p) n x → IsPlain x → ((m : NodeId) → Has (comb_fanin x) m → Known p (made m.0))
+  pub made_right : (p : List ℕ) → IsReachedPath t p → (n : ℕ) → Reached (graph_at t p) (node n) → (x : Node) → NodeAt (graph_at t p) n x → IsPlain x
+      → ((m : NodeId) → Has (comb_fanin x) m → Known p (made m.0))
       → (row : NodeRow) → slice_get (graph_at t p).nodes n ≡ Some row → value t state inputs vals p n row.node ≡ v (at_path p n)
   made_right p r n c x y plain k row e = make_right t state inputs vals v settled p n x row (r, c) y plain e (λ m h. known_made (k m h) (operand_reached p n x (r, c) y m h))
 
   -- the right number of an output, and of an input, of an instance
-  pub taken_right : (p : List ℕ) → IsReachedPath t p → (n i port part : ℕ) → Reached (graph_at t p) (node n) → NodeAt (graph_at t p) n (InstOut (record { 0 = i }) port) → (w : NodeId) → slice_get (graph_at t (i ∷ p)).outputs port ≡ Some w
-      → Has (facts (steps_at (plans (i ∷ p)) part)) (made w.0) → Known p (ran i part) → (row : NodeRow) → slice_get (graph_at t p).nodes n ≡ Some row → value t state inputs vals p n row.node ≡ v (at_path p n)
+  pub taken_right : (p : List ℕ) → IsReachedPath t p → (n i port part : ℕ) → Reached (graph_at t p) (node n) → NodeAt (graph_at t p) n (InstOut (record { 0 = i }) port)
+      → (w : NodeId) → slice_get (graph_at t (i ∷ p)).outputs port ≡ Some w
+      → Has (facts (steps_at (plans (i ∷ p)) part)) (made w.0) → Known p (ran i part) → (row : NodeRow) → slice_get (graph_at t p).nodes n ≡ Some row
+      → value t state inputs vals p n row.node ≡ v (at_path p n)
   taken_right p r n i port part c y w o h k row e =
       take_right t state inputs vals v settled p n i port row w (r, c) y e o (known_made (known_run k (made w.0) h) (step_reached t (down port y o) (r, c)))
 
@@ -105,7 +112,8 @@ module _ (t : Tree) (plans : List ℕ → List Part) (state : State) (inputs : L
   step_known p r known k (run i part) kid ready b =
       is_run (kid ready.0 (begins p i part (λ j need. k (passed i j) (ready.1 j need)) (λ c is. k (ran i c) (ready.2 c is))))
 
-  known_so_far : (p : List ℕ) (known : Fact → Type 0) (so_far : List Fact) → ((f : Fact) → known f → Known p f) → ((f : Fact) → Has so_far f → Known p f) → (f : Fact) → known f ⊎ Has so_far f → Known p f
+  known_so_far : (p : List ℕ) (known : Fact → Type 0) (so_far : List Fact) → ((f : Fact) → known f → Known p f) → ((f : Fact) → Has so_far f → Known p f) → (f : Fact)
+      → known f ⊎ Has so_far f → Known p f
   known_so_far p known so_far a b f (inl h) = a f h
   known_so_far p known so_far a b f (inr h) = b f h
 
@@ -113,8 +121,10 @@ module _ (t : Tree) (plans : List ℕ → List Part) (state : State) (inputs : L
   one_more p s so_far k a _ first = k
   one_more p s so_far k a f (later h) = a f h
 
-  steps_known : (p : List ℕ) → IsReachedPath t p → (known : Fact → Type 0) → ((f : Fact) → known f → Known p f) → (so_far : List Fact) → ((f : Fact) → Has so_far f → Known p f) → (steps : List Step) → ((s : Step) → Has steps s → RunsKnown p s)
-      → AreReady (graph_at t p) (λ i. graph_at t (i ∷ p)) (λ i. plans (i ∷ p)) known so_far steps → ((s : Step) → Has steps s → IsBalanced t state inputs vals p s) → (f : Fact) → Has (facts steps) f → Known p f
+  steps_known : (p : List ℕ) → IsReachedPath t p → (known : Fact → Type 0) → ((f : Fact) → known f → Known p f) → (so_far : List Fact)
+      → ((f : Fact) → Has so_far f → Known p f) → (steps : List Step) → ((s : Step) → Has steps s → RunsKnown p s)
+      → AreReady (graph_at t p) (λ i. graph_at t (i ∷ p)) (λ i. plans (i ∷ p)) known so_far steps → ((s : Step) → Has steps s → IsBalanced t state inputs vals p s) → (f : Fact)
+      → Has (facts steps) f → Known p f
   steps_known p r known k so_far a [] kids ready b f h = elim h [ ]
   steps_known p r known k so_far a (s ∷ steps) kids ready b f h =
       let now : Known p (fact s) = step_known p r (λ g. known g ⊎ Has so_far g) (known_so_far p known so_far k a) s (kids s first) ready.0 (b s first) in
@@ -134,4 +144,5 @@ module _ (t : Tree) (plans : List ℕ → List Part) (state : State) (inputs : L
   module _ (are : ArePlans t plans) where
     pub still_known : {p : List ℕ} {part : ℕ} → IsStill t plans state inputs vals p part → IsReachedPath t p → BeginsKnown p part → (f : Fact) → Has (facts (steps_at (plans p) part)) f → Known p f
     still_known (still {p = p} {part = part} steps kids) r k =
-        steps_known p r (Begins (graph_at t p) (plans p) part) k [] (λ g c. elim c [ ]) (steps_at (plans p) part) (runs_known p part (λ i b h c. still_known (kids i b h) (r, c))) ((are p r).parts part) steps
+        steps_known p r (Begins (graph_at t p) (plans p) part) k [] (λ g c. elim c [ ]) (steps_at (plans p) part) (runs_known p part (λ i b h c. still_known (kids i b h) (r, c)))
+        ((are p r).parts part) steps

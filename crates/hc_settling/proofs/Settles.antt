@@ -31,7 +31,8 @@ lawful_of : (s : Tree) → IsWhole s → IsLawful (graph s)
 lawful_of none w = absurd w
 lawful_of (tree g kids) w = w.0
 
-module _ (t : Tree) (plans : List ℕ → List Part) (tables : List ℕ → Tables) (whole : IsWhole t) (are : ArePlans t plans) (told : AreTablesOf t plans tables) (state : State) (inputs : List ℕ) (v : Occurrence → ℕ) (settled : IsSettled t state inputs v) where
+module _ (t : Tree) (plans : List ℕ → List Part) (tables : List ℕ → Tables) (whole : IsWhole t) (are : ArePlans t plans) (told : AreTablesOf t plans tables) (state : State)
+    (inputs : List ℕ) (v : Occurrence → ℕ) (settled : IsSettled t state inputs v) where
   abbrev Marked : Board → Type 0
   Marked b = AreMarked t plans state inputs b.vals b.stale
 
@@ -47,7 +48,8 @@ module _ (t : Tree) (plans : List ℕ → List Part) (tables : List ℕ → Tabl
       by true e = e
       by false e = absurd (not_both (b.stale (i ∷ p) c) u ((marked p part r e).1 i c h))
 
-  woken_marks : (vals : Occurrence → ℕ) (p : List ℕ) (parts : List ℕ) (old new : List ℕ → ℕ → Bool) → IsWoken t plans p parts old new → AreMarked t plans state inputs vals old → AreMarked t plans state inputs vals new
+  woken_marks : (vals : Occurrence → ℕ) (p : List ℕ) (parts : List ℕ) (old new : List ℕ → ℕ → Bool) → IsWoken t plans p parts old new
+      → AreMarked t plans state inputs vals old → AreMarked t plans state inputs vals new
   woken_marks vals p parts old new w marked =
       more_marks t plans state inputs vals old new
       (λ q j u. no_stale (old q j) (λ e. not_both (new q j) (w.grown q j e) u))
@@ -76,7 +78,8 @@ module _ (t : Tree) (plans : List ℕ → List Part) (tables : List ℕ → Tabl
   nothing old p m c = record { marks = m; constants = c; grown = λ q j u. u; right = λ s r. r; known = λ f h. elim h [ ] }
 
   -- a number of the circuit itself
-  put_sound : (p : List ℕ) (part n x : ℕ) (old new : Board) → IsReachedPath t p → Has (facts (steps_at (plans p) part)) (made n) → old.stale p part ≡ true → IsCalled plans tables old.stale p part → Marked old → KeepsConstants t old.vals
+  put_sound : (p : List ℕ) (part n x : ℕ) (old new : Board) → IsReachedPath t p → Has (facts (steps_at (plans p) part)) (made n) → old.stale p part ≡ true
+      → IsCalled plans tables old.stale p part → Marked old → KeepsConstants t old.vals
       → (IsReachedOccurrence t (at_path p n) → x ≡ v (at_path p n)) → IsPut t plans p n x (row (tables p).readers part) old new → Sound old new p [] × IsRight new.vals v t (at_path p n)
   put_sound p part n x old new r h u called marked keep right (kept e) = (nothing old p marked keep, (λ q. e ∙ right q))
   put_sound p part n x old new r h u called marked keep right (put changed w value others) =
@@ -89,7 +92,8 @@ module _ (t : Tree) (plans : List ℕ → List Part) (tables : List ℕ → Tabl
               (λ j g. told_readers t plans are tables told new.stale p r part n j h self w.there g)
               (λ i j q e g.
               let a = called i q e in
-              told_takers t plans are tables told new.stale q i ((subst (λ (l : List ℕ). IsReachedPath t l) e r).0) part n a.0 j (subst (λ (l : List ℕ). Has (facts (steps_at (plans l) part)) (made n)) e h) a.1
+              told_takers t plans are tables told new.stale q i ((subst (λ (l : List ℕ). IsReachedPath t l) e r).0) part n a.0 j
+              (subst (λ (l : List ℕ). Has (facts (steps_at (plans l) part)) (made n)) e h) a.1
               (w.grown q a.0 a.2) (λ k c. w.grown q k (a.3 k c)) g)
               (λ i j m port q e y z g. absurd (made_no_input t plans are p r part n port h y))
               before;
@@ -102,8 +106,10 @@ module _ (t : Tree) (plans : List ℕ → List Part) (tables : List ℕ → Tabl
       )
 
   -- an input of an instance
-  give_sound : (p : List ℕ) (i port n m : ℕ) (old new : Board) → IsReachedPath t (i ∷ p) → NodeIs t (i ∷ p) m (Input port) → connection (graph_at t p) i port ≡ Some (id_of n) → Marked old → KeepsConstants t old.vals
-      → (IsReachedOccurrence t (at_path (i ∷ p) m) → old.vals (at_path p n) ≡ v (at_path (i ∷ p) m)) → IsPut t plans (i ∷ p) m (old.vals (at_path p n)) (row (tables (i ∷ p)).input_readers port) old new
+  give_sound : (p : List ℕ) (i port n m : ℕ) (old new : Board) → IsReachedPath t (i ∷ p) → NodeIs t (i ∷ p) m (Input port)
+      → connection (graph_at t p) i port ≡ Some (id_of n) → Marked old → KeepsConstants t old.vals
+      → (IsReachedOccurrence t (at_path (i ∷ p) m) → old.vals (at_path p n) ≡ v (at_path (i ∷ p) m)) → IsPut t plans (i ∷ p) m (old.vals (at_path p n))
+      (row (tables (i ∷ p)).input_readers port) old new
       → Sound old new p [] × IsRight new.vals v t (at_path (i ∷ p) m)
   give_sound p i port n m old new r y e marked keep right (kept same) = (nothing old p marked keep, (λ q. same ∙ right q))
   give_sound p i port n m old new r y e marked keep right (put changed w value others) =
@@ -150,7 +156,8 @@ module _ (t : Tree) (plans : List ℕ → List Part) (tables : List ℕ → Tabl
   more_known old mid p f so_far a k _ first = a.known f first
   more_known old mid p f so_far a k g (later h) = known_stays a.right (k g h)
 
-  either_known : (b : Board) (p : List ℕ) (known : Fact → Type 0) (so_far : List Fact) → ((f : Fact) → known f → Known b p f) → ((f : Fact) → Has so_far f → Known b p f) → (f : Fact) → known f ⊎ Has so_far f → Known b p f
+  either_known : (b : Board) (p : List ℕ) (known : Fact → Type 0) (so_far : List Fact) → ((f : Fact) → known f → Known b p f) → ((f : Fact) → Has so_far f → Known b p f)
+      → (f : Fact) → known f ⊎ Has so_far f → Known b p f
   either_known b p known so_far a k f (inl h) = a f h
   either_known b p known so_far a k f (inr h) = k f h
 
@@ -165,15 +172,19 @@ module _ (t : Tree) (plans : List ℕ → List Part) (tables : List ℕ → Tabl
   tail_of [] = []
   tail_of (x ∷ xs) = xs
 
-  called_by : (stale : List ℕ → ℕ → Bool) (p : List ℕ) (part i b : ℕ) → Has (steps_at (plans p) part) (run i b) → stale p part ≡ true → ((k : ℕ) → Has (row (tables p).takers part) k → stale p k ≡ true) → IsCalled plans tables stale (i ∷ p) b
+  called_by : (stale : List ℕ → ℕ → Bool) (p : List ℕ) (part i b : ℕ) → Has (steps_at (plans p) part) (run i b) → stale p part ≡ true
+      → ((k : ℕ) → Has (row (tables p).takers part) k → stale p k ≡ true) → IsCalled plans tables stale (i ∷ p) b
   called_by stale p part i b h u a j q e =
       subst
-      (λ (l : List ℕ). (c : ℕ) × Has (steps_at (plans (tail_of l)) c) (run (head_of l) b) × (stale (tail_of l) c ≡ true) × ((k : ℕ) → Has (row (tables (tail_of l)).takers c) k → stale (tail_of l) k ≡ true))
+      (λ (l : List ℕ). (c : ℕ) × Has (steps_at (plans (tail_of l)) c) (run (head_of l) b) × (stale (tail_of l) c ≡ true)
+      × ((k : ℕ) → Has (row (tables (tail_of l)).takers c) k → stale (tail_of l) k ≡ true))
       e (part, h, u, a)
 
   -- a walk is sound
-  pub walk_sound : {p : List ℕ} {part : ℕ} {steps : List Step} {old new : Board} → Walks t plans tables state inputs p part steps old new → IsReachedPath t p → old.stale p part ≡ true → IsCalled plans tables old.stale p part → Marked old → KeepsConstants t old.vals
-      → ((s : Step) → Has steps s → Has (steps_at (plans p) part) s) → (known : Fact → Type 0) (so_far : List Fact) → AreReady (graph_at t p) (λ i. graph_at t (i ∷ p)) (λ i. plans (i ∷ p)) known so_far steps
+  pub walk_sound : {p : List ℕ} {part : ℕ} {steps : List Step} {old new : Board} → Walks t plans tables state inputs p part steps old new → IsReachedPath t p
+      → old.stale p part ≡ true → IsCalled plans tables old.stale p part → Marked old → KeepsConstants t old.vals
+      → ((s : Step) → Has steps s → Has (steps_at (plans p) part) s) → (known : Fact → Type 0) (so_far : List Fact) → AreReady (graph_at t p) (λ i. graph_at t (i ∷ p))
+      (λ i. plans (i ∷ p)) known so_far steps
       → ((f : Fact) → known f → Known old p f) → ((f : Fact) → Has so_far f → Known old p f) → Sound old new p (facts steps)
   walk_sound (stop {p = p} {b = b}) r u called marked keep sub known so_far ready a k = nothing b p marked keep
   walk_sound (makes {p = p} {part = part} {n = n} {steps = steps} {old = old} {mid = mid} {new = new} x at here rest) r u called marked keep sub known so_far ready a k =
@@ -182,27 +193,32 @@ module _ (t : Tree) (plans : List ℕ → List Part) (tables : List ℕ → Tabl
       (λ q. made_right t plans state inputs old.vals v settled keep p r n ready.0.0 y.0 y.1 y.2 (λ m h. either_known old p known so_far a k (made m.0) (y.3 m h)) x at) here in
       let now : Sound old mid p (made n ∷ []) = with_fact old mid p (made n) one.0 (is_made one.1) in
       chain old mid new p (made n) (facts steps) now
-      (walk_sound rest r (now.grown p part u) (called_grows p part old.stale mid.stale now.grown called) now.marks now.constants (λ s c. sub s (later c)) known (made n ∷ so_far) ready.1 (λ f h. known_stays now.right (a f h)) (more_known old mid p (made n) so_far now k))
+      (walk_sound rest r (now.grown p part u) (called_grows p part old.stale mid.stale now.grown called) now.marks now.constants (λ s c. sub s (later c)) known
+      (made n ∷ so_far) ready.1 (λ f h. known_stays now.right (a f h)) (more_known old mid p (made n) so_far now k))
   walk_sound (takes {p = p} {part = part} {n = n} {i = i} {port = port} {steps = steps} {old = old} {mid = mid} {new = new} x at here rest) r u called marked keep sub known so_far ready a k =
       let o = ready.0.2 in
       let one = put_sound p part n (computed t state inputs old.vals p n x) old mid r (has_map fact (sub (take n i port) first)) u called marked keep
       (λ q. taken_right t plans state inputs old.vals v settled keep p r n i port o.1 ready.0.0 ready.0.1 o.0 o.2 o.3 (either_known old p known so_far a k (ran i o.1) o.4) x at) here in
       let now : Sound old mid p (made n ∷ []) = with_fact old mid p (made n) one.0 (is_made one.1) in
       chain old mid new p (made n) (facts steps) now
-      (walk_sound rest r (now.grown p part u) (called_grows p part old.stale mid.stale now.grown called) now.marks now.constants (λ s c. sub s (later c)) known (made n ∷ so_far) ready.1 (λ f h. known_stays now.right (a f h)) (more_known old mid p (made n) so_far now k))
+      (walk_sound rest r (now.grown p part u) (called_grows p part old.stale mid.stale now.grown called) now.marks now.constants (λ s c. sub s (later c)) known
+      (made n ∷ so_far) ready.1 (λ f h. known_stays now.right (a f h)) (more_known old mid p (made n) so_far now k))
   walk_sound (passes {p = p} {part = part} {n = n} {i = i} {port = port} {steps = steps} {old = old} {mid = mid} {new = new} m y here rest) r u called marked keep sub known so_far ready a k =
       let kid : IsReachedPath t (i ∷ p) = (r, ready.0.0) in
       let one = give_sound p i port n m old mid kid y ready.0.1 marked keep
       (λ q. passed_right t plans state inputs old.vals v settled keep p r n i port ready.0.0 ready.0.1 (either_known old p known so_far a k (made n) ready.0.2) m y q) here in
       let lawful : IsLawful (graph_at t (i ∷ p)) = lawful_of (tree_at t (i ∷ p)) (whole_at t whole (i ∷ p) kid) in
-      let now : Sound old mid p (passed i port ∷ []) = with_fact old mid p (passed i port) one.0 (is_passed (λ j z. subst (λ (l : ℕ). IsRight mid.vals v t (at_path (i ∷ p) l)) (lawful.one_input m j port y z) one.1)) in
+      let now : Sound old mid p (passed i port ∷ []) = with_fact old mid p (passed i port) one.0
+      (is_passed (λ j z. subst (λ (l : ℕ). IsRight mid.vals v t (at_path (i ∷ p) l)) (lawful.one_input m j port y z) one.1)) in
       chain old mid new p (passed i port) (facts steps) now
-      (walk_sound rest r (now.grown p part u) (called_grows p part old.stale mid.stale now.grown called) now.marks now.constants (λ s c. sub s (later c)) known (passed i port ∷ so_far) ready.1 (λ f h. known_stays now.right (a f h)) (more_known old mid p (passed i port) so_far now k))
+      (walk_sound rest r (now.grown p part u) (called_grows p part old.stale mid.stale now.grown called) now.marks now.constants (λ s c. sub s (later c)) known
+      (passed i port ∷ so_far) ready.1 (λ f h. known_stays now.right (a f h)) (more_known old mid p (passed i port) so_far now k))
   walk_sound (skips {p = p} {part = part} {i = i} {b = b} {steps = steps} {old = old} {new = new} e rest) r u called marked keep sub known so_far ready a k =
       let kid : IsReachedPath t (i ∷ p) = (r, ready.0.0) in
       let fact_is : Known old p (ran i b) =
       is_run (still_known t plans state inputs old.vals v settled keep are (unmarked_still t plans are state inputs old.vals whole old.stale marked (i ∷ p) b kid e) kid
-      (begins t plans state inputs old.vals v settled keep p i b (λ j need. either_known old p known so_far a k (passed i j) (ready.0.1 j need)) (λ c is. either_known old p known so_far a k (ran i c) (ready.0.2 c is)))) in
+      (begins t plans state inputs old.vals v settled keep p i b (λ j need. either_known old p known so_far a k (passed i j) (ready.0.1 j need))
+      (λ c is. either_known old p known so_far a k (ran i c) (ready.0.2 c is)))) in
       let now : Sound old old p (ran i b ∷ []) = with_fact old old p (ran i b) (nothing old p marked keep) fact_is in
       chain old old new p (ran i b) (facts steps) now
       (walk_sound rest r u called marked keep (λ s c. sub s (later c)) known (ran i b ∷ so_far) ready.1 a (more_known old old p (ran i b) so_far now k))
@@ -212,7 +228,8 @@ module _ (t : Tree) (plans : List ℕ → List Part) (tables : List ℕ → Tabl
       let part_of : Sound start mid (i ∷ p) (facts (steps_at (plans (i ∷ p)) b)) =
       walk_sound inner kid (w.grown (i ∷ p) b e) (called_by woken p part i b (sub (run i b) first) (w.grown p part u) w.there)
       (woken_marks old.vals p (row (tables p).takers part) old.stale woken w marked) keep (λ s c. c) (Begins (graph_at t (i ∷ p)) (plans (i ∷ p)) b) [] ((are (i ∷ p) kid).parts b)
-      (begins t plans state inputs old.vals v settled keep p i b (λ j need. either_known old p known so_far a k (passed i j) (ready.0.1 j need)) (λ c is. either_known old p known so_far a k (ran i c) (ready.0.2 c is)))
+      (begins t plans state inputs old.vals v settled keep p i b (λ j need. either_known old p known so_far a k (passed i j) (ready.0.1 j need))
+      (λ c is. either_known old p known so_far a k (ran i c) (ready.0.2 c is)))
       (λ f h. elim h [ ]) in
       let now : Sound old mid p (ran i b ∷ []) = record {
         marks = part_of.marks;
@@ -222,4 +239,5 @@ module _ (t : Tree) (plans : List ℕ → List Part) (tables : List ℕ → Tabl
         known = one_known mid p (ran i b) (is_run part_of.known);
       } in
       chain old mid new p (ran i b) (facts steps) now
-      (walk_sound rest r (now.grown p part u) (called_grows p part old.stale mid.stale now.grown called) now.marks now.constants (λ s c. sub s (later c)) known (ran i b ∷ so_far) ready.1 (λ f h. known_stays now.right (a f h)) (more_known old mid p (ran i b) so_far now k))
+      (walk_sound rest r (now.grown p part u) (called_grows p part old.stale mid.stale now.grown called) now.marks now.constants (λ s c. sub s (later c)) known
+      (ran i b ∷ so_far) ready.1 (λ f h. known_stays now.right (a f h)) (more_known old mid p (ran i b) so_far now k))

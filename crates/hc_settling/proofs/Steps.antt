@@ -36,7 +36,8 @@ module _ (t : Tree) (state : State) (inputs : List ℕ) (vals v : Occurrence →
       value_agrees t state inputs vals v p n row.node (row, e, refl) (agrees_from t vals v p n x y plain a) ∙ sym (settled (at_path p n) row r e)
 
   -- an output of an instance
-  pub take_right : (p : List ℕ) (n i port : ℕ) (row : NodeRow) (w : NodeId) → IsReachedOccurrence t (at_path p n) → NodeIs t p n (InstOut (record { 0 = i }) port) → slice_get (graph_at t p).nodes n ≡ Some row
+  pub take_right : (p : List ℕ) (n i port : ℕ) (row : NodeRow) (w : NodeId) → IsReachedOccurrence t (at_path p n) → NodeIs t p n (InstOut (record { 0 = i }) port)
+      → slice_get (graph_at t p).nodes n ≡ Some row
       → slice_get (graph_at t (i ∷ p)).outputs port ≡ Some w → vals (at_path (i ∷ p) w.0) ≡ v (at_path (i ∷ p) w.0) → value t state inputs vals p n row.node ≡ v (at_path p n)
   take_right p n i port row w r y e o a =
       let is : row.node ≡ InstOut (record { 0 = i }) port = same_node (graph_at t p) n row.node (InstOut (record { 0 = i }) port) (row, e, refl) y in

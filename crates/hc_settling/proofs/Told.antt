@@ -49,10 +49,12 @@ module _ (t : Tree) (plans : List ℕ → List Part) (are : ArePlans t plans) wh
 
   module _ (tables : List ℕ → Tables) (told : AreTablesOf t plans tables) (stale : List ℕ → ℕ → Bool) where
     -- where the readers of a part are stale, and it itself
-    pub told_own : (p : List ℕ) → IsReachedPath t p → (part n j : ℕ) → Has (facts (steps_at (plans p) part)) (made n) → stale p part ≡ true → Has (facts (steps_at (plans p) j)) (made n) → stale p j ≡ true
+    pub told_own : (p : List ℕ) → IsReachedPath t p → (part n j : ℕ) → Has (facts (steps_at (plans p) part)) (made n) → stale p part ≡ true
+        → Has (facts (steps_at (plans p) j)) (made n) → stale p j ≡ true
     told_own p r part n j h u g = subst (λ (k : ℕ). stale p k ≡ true) ((told p r).one_step part j n h g) u
 
-    pub told_readers : (p : List ℕ) → IsReachedPath t p → (part n j : ℕ) → Has (facts (steps_at (plans p) part)) (made n) → stale p part ≡ true → ((k : ℕ) → Has (row (tables p).readers part) k → stale p k ≡ true) → Reads (graph_at t p) (plans p) j n → stale p j ≡ true
+    pub told_readers : (p : List ℕ) → IsReachedPath t p → (part n j : ℕ) → Has (facts (steps_at (plans p) part)) (made n) → stale p part ≡ true
+        → ((k : ℕ) → Has (row (tables p).readers part) k → stale p k ≡ true) → Reads (graph_at t p) (plans p) j n → stale p j ≡ true
     told_readers p r part n j h u a g = elim (same_or_not part j) [ inl e ↦ subst (λ (k : ℕ). stale p k ≡ true) e u | inr d ↦ a j ((told p r).readers part j n h g d) ]
 
     -- where the part of the parent that runs it is stale, and those that take from that
@@ -60,7 +62,8 @@ module _ (t : Tree) (plans : List ℕ → List Part) (are : ArePlans t plans) wh
         → ((k : ℕ) → Has (row (tables q).takers a) k → stale q k ≡ true) → Takes (λ k. graph_at t (k ∷ q)) (plans q) j i n → stale q j ≡ true
     told_takers q i r part n a j h c u b g = elim (same_or_not a j) [ inl e ↦ subst (λ (k : ℕ). stale q k ≡ true) e u | inr d ↦ b j ((told q r).takers a j i part n c h g d) ]
 
-    pub told_inputs : (p : List ℕ) → IsReachedPath t p → (n port j : ℕ) → NodeIs t p n (Input port) → ((k : ℕ) → Has (row (tables p).input_readers port) k → stale p k ≡ true) → Reads (graph_at t p) (plans p) j n → stale p j ≡ true
+    pub told_inputs : (p : List ℕ) → IsReachedPath t p → (n port j : ℕ) → NodeIs t p n (Input port)
+        → ((k : ℕ) → Has (row (tables p).input_readers port) k → stale p k ≡ true) → Reads (graph_at t p) (plans p) j n → stale p j ≡ true
     told_inputs p r n port j y a g = a j ((told p r).inputs port j n y g)
 
     -- an input is no output wire
@@ -83,8 +86,10 @@ port_of (Input port) = port
 port_of other = 0
 
 -- a part that passes an input which is not its connection is stale, however it is named
-module _ (t : Tree) (plans : List ℕ → List Part) (are : ArePlans t plans) (state : State) (inputs : List ℕ) (vals : Occurrence → ℕ) (stale : List ℕ → ℕ → Bool) (marked : AreMarked t plans state inputs vals stale) where
-  pub passers_of : (q : List ℕ) (i port n : ℕ) (c : NodeId) → IsReachedPath t (i ∷ q) → NodeIs t (i ∷ q) n (Input port) → connection (graph_at t q) i port ≡ Some c → ¬ (vals (at_path (i ∷ q) n) ≡ vals (at_path q c.0))
+module _ (t : Tree) (plans : List ℕ → List Part) (are : ArePlans t plans) (state : State) (inputs : List ℕ) (vals : Occurrence → ℕ) (stale : List ℕ → ℕ → Bool)
+    (marked : AreMarked t plans state inputs vals stale) where
+  pub passers_of : (q : List ℕ) (i port n : ℕ) (c : NodeId) → IsReachedPath t (i ∷ q) → NodeIs t (i ∷ q) n (Input port) → connection (graph_at t q) i port ≡ Some c
+      → ¬ (vals (at_path (i ∷ q) n) ≡ vals (at_path q c.0))
       → (a j m o : ℕ) (l : List ℕ) → i ∷ q ≡ a ∷ l → NodeIs t (i ∷ q) n (Input o) → IsReachedOccurrence t (at_path (i ∷ q) n) → Has (steps_at (plans l) j) (pass m a o) → stale l j ≡ true
   passers_of q i port n c r y e changed a j m o l same z reached h =
       let path : q ≡ l = ap tail_of same in

@@ -23,7 +23,8 @@ below zero (suc n) = inl (omega arith)
 below (suc m) zero = inr (omega arith)
 below (suc m) (suc n) = elim (below m n) [ inl l ↦ inl (omega (arith, l)) | inr l ↦ inr (omega (arith, l)) ]
 
-module _ (t : Tree) (plans : List ℕ → List Part) (tables : List ℕ → Tables) (whole : IsWhole t) (are : ArePlans t plans) (told : AreTablesOf t plans tables) (state : State) (inputs : List ℕ) (v : Occurrence → ℕ) (settled : IsSettled t state inputs v) where
+module _ (t : Tree) (plans : List ℕ → List Part) (tables : List ℕ → Tables) (whole : IsWhole t) (are : ArePlans t plans) (told : AreTablesOf t plans tables) (state : State)
+    (inputs : List ℕ) (v : Occurrence → ℕ) (settled : IsSettled t state inputs v) where
   abbrev InputsRight : (Occurrence → ℕ) → Type 0
   InputsRight vals = (n port : ℕ) → NodeIs t [] n (Input port) → IsRight vals v t (at_path [] n)
 
@@ -47,7 +48,8 @@ module _ (t : Tree) (plans : List ℕ → List Part) (tables : List ℕ → Tabl
   abbrev Done : Board → Type 0
   Done new = KeepsConstants t new.vals × InputsRight new.vals × ((b : ℕ) (f : Fact) → Has (facts (steps_at (plans []) b)) f → IsKnown t plans new.vals v [] f)
 
-  settles : {part : ℕ} {old new : Board} → Settles t plans tables state inputs part old new → AreMarked t plans state inputs old.vals old.stale → KeepsConstants t old.vals → InputsRight old.vals → KnownTo old.vals part → Done new
+  settles : {part : ℕ} {old new : Board} → Settles t plans tables state inputs part old new → AreMarked t plans state inputs old.vals old.stale
+      → KeepsConstants t old.vals → InputsRight old.vals → KnownTo old.vals part → Done new
   settles (over {part = part} none) marked keep ins k =
       (keep, ins, (λ b f h. elim (below b part) [ inl l ↦ k b l f h | inr l ↦ nothing f (subst (λ (z : List Step). Has (facts z) f) (none b l) h) ]))
     where
@@ -66,7 +68,8 @@ module _ (t : Tree) (plans : List ℕ → List Part) (tables : List ℕ → Tabl
   top_input : (n port : ℕ) → NodeIs t [] n (Input port) → IsReachedOccurrence t (at_path [] n) → v (at_path [] n) ≡ slice_index inputs port
   top_input n port y r = settled (at_path [] n) y.0 r y.1 ∙ ap (λ (z : Node). value t state inputs v [] n z) y.2
 
-  pub settling_settles : (old new : Board) → Settles t plans tables state inputs 0 old new → AreMarked t plans state inputs old.vals old.stale → KeepsConstants t old.vals → KeepsInputs t inputs old.vals
+  pub settling_settles : (old new : Board) → Settles t plans tables state inputs 0 old new → AreMarked t plans state inputs old.vals old.stale → KeepsConstants t old.vals
+      → KeepsInputs t inputs old.vals
       → IsSettled t state inputs new.vals × KeepsConstants t new.vals × KeepsInputs t inputs new.vals
   settling_settles old new s marked keep tops =
       let done : Done new = settles s marked keep (λ n port y r. tops n port y r ∙ sym (top_input n port y r)) (λ b l f h. absurd (omega (arith, l))) in

@@ -18,7 +18,8 @@ use Rattle.hc_settling.specs.Known.{at_path, ArePlans, IsKnown, IsBalanced, IsSt
 use Rattle.hc_settling.proofs.Meant.{IsMeant, meant_at}
 use Rattle.hc_settling.proofs.Quiet.{known_made, known_passed, known_run, constant_right}
 
-module _ (t : Tree) (plans : List ℕ → List Part) (are : ArePlans t plans) (state : State) (inputs : List ℕ) (vals v : Occurrence → ℕ) (settled : IsSettled t state inputs v) (constants : KeepsConstants t vals) (tops : KeepsInputs t inputs vals) where
+module _ (t : Tree) (plans : List ℕ → List Part) (are : ArePlans t plans) (state : State) (inputs : List ℕ) (vals v : Occurrence → ℕ) (settled : IsSettled t state inputs v)
+    (constants : KeepsConstants t vals) (tops : KeepsInputs t inputs vals) where
   abbrev Known : List ℕ → Fact → Type 0
   Known p f = IsKnown t plans vals v p f
 
@@ -62,7 +63,8 @@ module _ (t : Tree) (plans : List ℕ → List Part) (are : ArePlans t plans) (s
   all_settled rows top s row r e =
       all_right top s row r e
       ∙ settled s row r e
-      ∙ sym (value_agrees t state inputs vals v s.path s.node row.node (row, e, refl) (λ q m step. let c : IsReachedOccurrence t (at_path q m) = step_reached t step r in let z = rows (at_path q m) c in all_right top (at_path q m) z.0 c z.1))
+      ∙ sym (value_agrees t state inputs vals v s.path s.node row.node (row, e, refl) (λ q m step. let c : IsReachedOccurrence t (at_path q m) = step_reached t step r
+      in let z = rows (at_path q m) c in all_right top (at_path q m) z.0 c z.1))
 
 module _ (t : Tree) (plans : List ℕ → List Part) (are : ArePlans t plans) where
   -- Where the numbers are settled, no step would change anything.
@@ -80,11 +82,13 @@ module _ (t : Tree) (plans : List ℕ → List Part) (are : ArePlans t plans) wh
     settled_balanced settled p r part s h = balanced settled p r s (meant_at t plans are p r part s h)
 
     -- A part that is not marked is still.
-    still_in : IsWhole t → (stale : List ℕ → ℕ → Bool) → AreMarked t plans state inputs vals stale → (s : Tree) (p : List ℕ) (part : ℕ) → tree_at t p ≡ s → IsReachedPath t p → stale p part ≡ false → IsStill t plans state inputs vals p part
+    still_in : IsWhole t → (stale : List ℕ → ℕ → Bool) → AreMarked t plans state inputs vals stale → (s : Tree) (p : List ℕ) (part : ℕ) → tree_at t p ≡ s
+        → IsReachedPath t p → stale p part ≡ false → IsStill t plans state inputs vals p part
     still_in whole stale marked none p part e r u = absurd (subst IsWhole e (whole_at t whole p r))
     still_in whole stale marked (tree g kids) p part e r u =
         let m = marked p part r u in
         still m.0 (λ i b h. still_in whole stale marked (kids i) (i ∷ p) b (ap (λ (z : Tree). kid z i) e) (r, meant_at t plans are p r part (run i b) h) (m.1 i b h))
 
-    pub unmarked_still : IsWhole t → (stale : List ℕ → ℕ → Bool) → AreMarked t plans state inputs vals stale → (p : List ℕ) (part : ℕ) → IsReachedPath t p → stale p part ≡ false → IsStill t plans state inputs vals p part
+    pub unmarked_still : IsWhole t → (stale : List ℕ → ℕ → Bool) → AreMarked t plans state inputs vals stale → (p : List ℕ) (part : ℕ) → IsReachedPath t p
+        → stale p part ≡ false → IsStill t plans state inputs vals p part
     unmarked_still whole stale marked p part r u = still_in whole stale marked (tree_at t p) p part refl r u

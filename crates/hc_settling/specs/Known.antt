@@ -43,7 +43,8 @@ abbrev pub IsTaken : Tree → (List ℕ → List Part) → State → List ℕ �
 IsTaken t plans state inputs vals new v p (make n) = (row : NodeRow) → slice_get (graph_at t p).nodes n ≡ Some row → new (at_path p n) ≡ value t state inputs vals p n row.node
 IsTaken t plans state inputs vals new v p (take n i port) = (row : NodeRow) → slice_get (graph_at t p).nodes n ≡ Some row → new (at_path p n) ≡ value t state inputs vals p n row.node
 IsTaken t plans state inputs vals new v p (pass n i port) = (m : ℕ) → NodeIs t (i ∷ p) m (Input port) → IsReachedOccurrence t (at_path (i ∷ p) m) → new (at_path (i ∷ p) m) ≡ vals (at_path p n)
-IsTaken t plans state inputs vals new v p (run i part) = ((f : Fact) → Begins (graph_at t (i ∷ p)) (plans (i ∷ p)) part f → IsKnown t plans vals v (i ∷ p) f) → (f : Fact) → Has (facts (steps_at (plans (i ∷ p)) part)) f → IsKnown t plans new v (i ∷ p) f
+IsTaken t plans state inputs vals new v p (run i part) = ((f : Fact) → Begins (graph_at t (i ∷ p)) (plans (i ∷ p)) part f → IsKnown t plans vals v (i ∷ p) f) → (f : Fact)
+    → Has (facts (steps_at (plans (i ∷ p)) part)) f → IsKnown t plans new v (i ∷ p) f
 
 -- A part of the instance at a path is still: no step of it, and none of a part of an instance that it runs, would change
 -- anything.

@@ -55,7 +55,8 @@ pub data Walks (t : Tree) (plans : List ℕ → List Part) (tables : List ℕ �
 
 -- A part of an instance is run from a part of its parent that is stale, as are those that take from that.
 abbrev pub IsCalled : (List ℕ → List Part) → (List ℕ → Tables) → (List ℕ → ℕ → Bool) → List ℕ → ℕ → Type 0
-IsCalled plans tables stale p part = (i : ℕ) (q : List ℕ) → p ≡ i ∷ q → (a : ℕ) × Has (steps_at (plans q) a) (run i part) × (stale q a ≡ true) × ((k : ℕ) → Has (row (tables q).takers a) k → stale q k ≡ true)
+IsCalled plans tables stale p part = (i : ℕ) (q : List ℕ) → p ≡ i ∷ q → (a : ℕ) × Has (steps_at (plans q) a) (run i part) × (stale q a ≡ true)
+    × ((k : ℕ) → Has (row (tables q).takers a) k → stale q k ≡ true)
 
 -- What comes of a walk: the marks are right, right numbers stay right, and these facts are known.
 pub record IsSound (t : Tree) (plans : List ℕ → List Part) (state : State) (inputs : List ℕ) (v : Occurrence → ℕ) (old new : Board) (p : List ℕ) (fs : List Fact) : Type 0 where
@@ -69,4 +70,5 @@ pub record IsSound (t : Tree) (plans : List ℕ → List Part) (state : State) (
 pub data Settles (t : Tree) (plans : List ℕ → List Part) (tables : List ℕ → Tables) (state : State) (inputs : List ℕ) : (part : ℕ) (old new : Board) → Type 0 where
   over : {part : ℕ} {b : Board} → ((j : ℕ) → part ≤ j → steps_at (plans []) j ≡ []) → Settles t plans tables state inputs part b b
   rests : {part : ℕ} {old new : Board} → old.stale [] part ≡ false → Settles t plans tables state inputs (suc part) old new → Settles t plans tables state inputs part old new
-  works : {part : ℕ} {old mid new : Board} → old.stale [] part ≡ true → Walks t plans tables state inputs [] part (steps_at (plans []) part) old mid → Settles t plans tables state inputs (suc part) mid new → Settles t plans tables state inputs part old new
+  works : {part : ℕ} {old mid new : Board} → old.stale [] part ≡ true → Walks t plans tables state inputs [] part (steps_at (plans []) part) old mid
+      → Settles t plans tables state inputs (suc part) mid new → Settles t plans tables state inputs part old new

@@ -46,7 +46,9 @@ fit_more g h ps os k id fit grows at within = fit_set h ps os k id (fit_still g 
 pub width_row : (g : Graph) (id : NodeId) (w : ℕ) → id.0 < length g.nodes → width_at g id ≡ w → HasWidth g id w
 width_row g id w node e = by (slice_get_cases g.nodes id.0)
   where
-    by : (slice_get g.nodes id.0 ≡ slice_get g.nodes id.0) × (((x : NodeRow) × (id.0 < length g.nodes) × (slice_get g.nodes id.0 ≡ Some x) × (get_or g.nodes id.0 x ≡ x)) ⊎ ((length g.nodes ≤ id.0) × (slice_get g.nodes id.0 ≡ None))) → HasWidth g id w
+    by : (slice_get g.nodes id.0 ≡ slice_get g.nodes id.0) × (((x : NodeRow) × (id.0 < length g.nodes) × (slice_get g.nodes id.0 ≡ Some x) × (get_or g.nodes id.0 x ≡ x)) ⊎
+        ((length g.nodes ≤ id.0) × (slice_get g.nodes id.0 ≡ None)))
+        → HasWidth g id w
     by (_, inl (x, within, at, get)) = (x, at, ap (λ (o : Option NodeRow). row_width o) (sym at) ∙ e)
     by (_, inr (past, none)) = absurd (omega (arith, past, node))
 
@@ -69,7 +71,8 @@ connected_fit g (p ∷ ps) (None ∷ os) ids fit e = absurd cc
 connected_fit g (p ∷ ps) (Some id ∷ os) ids fit e = by (all_connected os) refl ids e
     (λ is rest. connected_fit g ps os is fit.1 rest)
   where
-    by : (r : Result (List NodeId) FaultKind) → all_connected os ≡ r → (js : List NodeId) → put_before (Some id) r ≡ Ok js → ((is : List NodeId) → all_connected os ≡ Ok is → HaveWidthsOf g is ps) → HaveWidthsOf g js (p ∷ ps)
+    by : (r : Result (List NodeId) FaultKind) → all_connected os ≡ r → (js : List NodeId) → put_before (Some id) r ≡ Ok js
+        → ((is : List NodeId) → all_connected os ≡ Ok is → HaveWidthsOf g is ps) → HaveWidthsOf g js (p ∷ ps)
     by (Ok is) rest js f more = let same : id ∷ is ≡ js = cc in subst (λ (l : List NodeId). HaveWidthsOf g l (p ∷ ps)) same (fit.0, more is rest)
     by (Err kind) rest js f more = absurd cc
 
@@ -92,7 +95,8 @@ numbers_count [] [] e = refl
 numbers_count [] (z ∷ zs) e = absurd cc
 numbers_count (n ∷ ns) zs e = by n (numbers ns) refl zs e (λ ws is. numbers_count ns ws is)
   where
-    by : (m : Outcome) (r : Result (List ℤ) FaultKind) → numbers ns ≡ r → (zs : List ℤ) → before m r ≡ Ok zs → ((ws : List ℤ) → numbers ns ≡ Ok ws → length ws ≡ length ns) → length zs ≡ suc (length ns)
+    by : (m : Outcome) (r : Result (List ℤ) FaultKind) → numbers ns ≡ r → (zs : List ℤ) → before m r ≡ Ok zs
+        → ((ws : List ℤ) → numbers ns ≡ Ok ws → length ws ≡ length ns) → length zs ≡ suc (length ns)
     by (Err kind) r rest zs e more = absurd cc
     by (Ok z) (Err kind) rest zs e more = absurd cc
     by (Ok z) (Ok ws) rest zs e more = let same : z ∷ ws ≡ zs = cc in let l = more ws rest in ap length (sym same) ∙ ap suc l

@@ -70,15 +70,18 @@ module _ (below : Below) (ins : List Port) where
   kept_connect : (e : Elaborating) (done : Connected) (c : Text × Signal) → IsFormedBody e → FitPorts e.graph ins done → Keeps e (Fit ins) (connect ins done c e)
   kept_connect e done c l fit =
       kept_then e IsNode (Fit ins) (signal_node c.1 e) (to_place done c.0) (kept_signal below e c.1 l)
-      (λ f id lf gf n. kept_then f (λ g at. at < length ins) (Fit ins) (given (open_place ins done c.0) f) (at_place done id) (kept_given f (λ g at. at < length ins) (open_place ins done c.0) lf (λ at is. place_within ins done c.0 at is))
-      (λ i at li gi within. kept_then i (λ g x. FitsAt g ins at id) (Fit ins) (has_width ins at id i) (λ x. answer (slice_set done at (Some id))) (kept_rule i (λ g. FitsAt g ins at id) WidthMismatch (fits i.graph ins at id) li (λ fitted. has_width_at i.graph ins at id (node_still f.graph i.graph id n gi) fitted))
+      (λ f id lf gf n. kept_then f (λ g at. at < length ins) (Fit ins) (given (open_place ins done c.0) f) (at_place done id)
+      (kept_given f (λ g at. at < length ins) (open_place ins done c.0) lf (λ at is. place_within ins done c.0 at is))
+      (λ i at li gi within. kept_then i (λ g x. FitsAt g ins at id) (Fit ins) (has_width ins at id i) (λ x. answer (slice_set done at (Some id)))
+      (kept_rule i (λ g. FitsAt g ins at id) WidthMismatch (fits i.graph ins at id) li (λ fitted. has_width_at i.graph ins at id (node_still f.graph i.graph id n gi) fitted))
       (λ j x lj gj fitted. kept_answer j (Fit ins) (slice_set done at (Some id)) lj
       (fit_more e.graph j.graph ins done at id fit (grows_on e.graph i.graph j.graph (grows_on e.graph f.graph i.graph gf gi) gj)
       fitted within))))
 
   kept_connections : (cs : List (Text × Signal)) (e : Elaborating) (done : Connected) → IsFormedBody e → FitPorts e.graph ins done → Keeps e (Fit ins) (connections ins done cs e)
   kept_connections [] e done l fit = kept_answer e (Fit ins) done l fit
-  kept_connections (c ∷ cs) e done l fit = kept_then e (Fit ins) (Fit ins) (connect ins done c e) (λ more. connections ins more cs) (kept_connect e done c l fit) (λ f more lf gf fits. kept_connections cs f more lf fits)
+  kept_connections (c ∷ cs) e done l fit = kept_then e (Fit ins) (Fit ins) (connect ins done c e) (λ more. connections ins more cs) (kept_connect e done c l fit)
+      (λ f more lf gf fits. kept_connections cs f more lf fits)
 
   abbrev Have : Graph → List NodeId → Type 0
   Have g ids = HaveWidthsOf g ids ins
@@ -94,18 +97,21 @@ abbrev made : Key → ℕ → Call → Ports → List NodeId → Steps (Unit {0}
 made k line call ports inputs = draw (instance ports inputs) >>= (λ id. add_child (record { call = call; ident = ident_of k; line = line }) >> bind k (target.Instance id))
 
 module _ (below : Below) where
-  ends_made : (e : Elaborating) (k : Key) (line : ℕ) (call : Call) (ports : Ports) (inputs : List NodeId) → IsFormedBody e → ArePorts ports → HaveWidthsOf e.graph inputs ports.inputs → Ends (made k line call ports inputs e)
+  ends_made : (e : Elaborating) (k : Key) (line : ℕ) (call : Call) (ports : Ports) (inputs : List NodeId) → IsFormedBody e → ArePorts ports
+      → HaveWidthsOf e.graph inputs ports.inputs → Ends (made k line call ports inputs e)
   ends_made e k line call ports inputs l are have =
       let h : Graph = more_instances e.graph ports inputs in
       let it : Instance = record { ports = ports; conns = inputs; label = None } in
-      let rows : length h.nodes ≡ length e.graph.nodes + length (output_rows (length e.graph.instances) 0 ports.outputs) = length-append e.graph.nodes (output_rows (length e.graph.instances) 0 ports.outputs) in
+      let rows : length h.nodes ≡ length e.graph.nodes + length (output_rows (length e.graph.instances) 0 ports.outputs) = length-append e.graph.nodes
+      (output_rows (length e.graph.instances) 0 ports.outputs) in
       let many : length h.instances ≡ length e.graph.instances + 1 = length_push e.graph.instances it in
       let child : Child = record { call = call; ident = ident_of k; line = line } in
       ends_bound (record (with_graph e h) { children = e.children ++ child ∷ [] }) k (target.Instance (next_instance e.graph))
       (record { graph = below.changes.instance e.graph ports inputs l.graph are have; names = known_longer e.names e.graph h l.names (omega (arith, rows)) (omega arith) (omega (arith, many)) })
       (omega (arith, many))
 
-  ends_placed : (e : Elaborating) (k : Key) (line : ℕ) (call : Call) (ports : Ports) (inputs : List NodeId) → IsFormedBody e → ArePorts ports → HaveWidthsOf e.graph inputs ports.inputs → Ends (placed k line call ports inputs e)
+  ends_placed : (e : Elaborating) (k : Key) (line : ℕ) (call : Call) (ports : Ports) (inputs : List NodeId) → IsFormedBody e → ArePorts ports
+      → HaveWidthsOf e.graph inputs ports.inputs → Ends (placed k line call ports inputs e)
   ends_placed e k line call ports inputs l are have =
       ends_then e (λ g x. HaveWidthsOf g inputs ports.inputs) (is_new k e) (λ x. made k line call ports inputs)
       (kept_rule e (λ g. HaveWidthsOf g inputs ports.inputs) RepeatedName (not (is_some (meaning e.names k))) l (λ new. have))
@@ -121,7 +127,8 @@ module _ (below : Below) where
   ends_instantiated : (e : Elaborating) (k : Key) (line place : ℕ) (c : CircuitText) (args : List ℤ) (conns : List (Text × Signal)) → IsFormedBody e → Ends (instantiated k line place c args conns e)
   ends_instantiated e k line place c args conns l =
       ends_then e (λ g ws. AreWidths ws) (widths_of k (port_widths c args) e) (with_widths k line place c args conns) (kept_widths e k c args l)
-      (λ f ws lf gf are. ends_then f (λ g ids. HaveWidthsOf g ids (inputs_of c.heads ws)) (connected (inputs_of c.heads ws) conns f) (λ inputs. placed k line (record { circuit = place; args = args }) (ports_of c.heads ws) inputs)
+      (λ f ws lf gf are. ends_then f (λ g ids. HaveWidthsOf g ids (inputs_of c.heads ws)) (connected (inputs_of c.heads ws) conns f)
+      (λ inputs. placed k line (record { circuit = place; args = args }) (ports_of c.heads ws) inputs)
       (kept_connected below (inputs_of c.heads ws) f conns lf)
       (λ i inputs li gi have. ends_placed i k line (record { circuit = place; args = args }) (ports_of c.heads ws) inputs li (are_ports c.heads ws (ports_of c.heads ws) are refl) have))
 
@@ -136,6 +143,7 @@ module _ (below : Below) where
     pub ends_inst : (line : ℕ) (p : Place) (of : Text) (ns : List Outcome) (conns : List (Text × Signal)) (e : Elaborating) → IsFormedBody e → Ends (inst_step d line p of ns conns e)
     ends_inst line p of ns conns e l =
         ends_then e Any (given (key p) e) (with_key line of ns conns) (kept_given e Any (key p) l (λ k is. tt))
-        (λ f k lf gf any. ends_then f Any (given (circuit_at d (circuit_place d.circuits of)) f) (with_circuit line ns conns k) (kept_given f Any (circuit_at d (circuit_place d.circuits of)) lf (λ c is. tt))
+        (λ f k lf gf any. ends_then f Any (given (circuit_at d (circuit_place d.circuits of)) f) (with_circuit line ns conns k)
+        (kept_given f Any (circuit_at d (circuit_place d.circuits of)) lf (λ c is. tt))
         (λ i c li gi any. ends_then i Any (given (arguments c.1 ns) i) (λ args. instantiated k line c.0 c.1 args conns) (kept_given i Any (arguments c.1 ns) li (λ args is. tt))
         (λ j args lj gj any. ends_instantiated j k line c.0 c.1 args conns lj)))

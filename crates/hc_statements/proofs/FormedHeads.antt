@@ -47,7 +47,8 @@ module _ (below : Below) where
   after_are env taken [] ws e = let same : [] ≡ ws = cc in subst AreWidths same no_widths
   after_are env taken (h ∷ hs) ws e = by (width_of env taken h) refl (widths_after env (taken ++ h.name ∷ []) hs) refl e (λ vs is. after_are env (taken ++ h.name ∷ []) hs vs is)
     where
-      by : (r : Result ℕ FaultKind) → width_of env taken h ≡ r → (more : PortWidths) → widths_after env (taken ++ h.name ∷ []) hs ≡ more → before (at_line h.line r) more ≡ Ok ws → ((vs : List ℕ) → widths_after env (taken ++ h.name ∷ []) hs ≡ Ok vs → AreWidths vs) → AreWidths ws
+      by : (r : Result ℕ FaultKind) → width_of env taken h ≡ r → (more : PortWidths) → widths_after env (taken ++ h.name ∷ []) hs ≡ more
+          → before (at_line h.line r) more ≡ Ok ws → ((vs : List ℕ) → widths_after env (taken ++ h.name ∷ []) hs ≡ Ok vs → AreWidths vs) → AreWidths ws
       by (Ok w) is (Ok vs) rest e' all = let same : w ∷ vs ≡ ws = cc in subst AreWidths same (one_more w vs (width_is env taken h w is) (all vs rest))
       by (Ok w) is (Err f) rest e' all = absurd cc
       by (Err kind) is (Ok vs) rest e' all = absurd cc

@@ -52,7 +52,8 @@ one_more below g h w x id l b lawful inner e =
     let many : length more.nodes ≡ length g.nodes + 1 = length_push g.nodes new in
     subst (λ (d : Graph × NodeId). Drawn g d.0 d.1) (same_drawn (more, next g) (h, id) e) (below.changes.node g w x l b lawful inner, row_added g more new refl, omega (arith, many))
 
-module _ (below : Below) (g h : Graph) (n : NodeId) (en : Option NodeId) (cl : Option (NodeId × ℤ)) (first : Option ℤ) (id : NodeId) (l : IsFormed g) (there : IsNode g n) (me : MayBeNode g en) (mc : MayBeNode g (clear_node cl)) where
+module _ (below : Below) (g h : Graph) (n : NodeId) (en : Option NodeId) (cl : Option (NodeId × ℤ)) (first : Option ℤ) (id : NodeId) (l : IsFormed g) (there : IsNode g n)
+    (me : MayBeNode g en) (mc : MayBeNode g (clear_node cl)) where
   abbrev w : ℕ
   w = width_at g n
 
@@ -75,11 +76,13 @@ module _ (below : Below) (g h : Graph) (n : NodeId) (en : Option NodeId) (cl : O
       by (Ok v) is e' = let same : ◌≡◌ {A = Option (NodeId × BitVector)} (Some (x.0, v)) c = cc in subst (λ y. MayClear g y w) same (may, value_is x.1 v is)
       by (Err kind) is e' = absurd cc
 
-  with_init : (c : Option (NodeId × BitVector)) → MayHaveWidth g en 1 → MayClear g c w → (r : Result BitVector FaultKind) → init_in w first ≡ r → go_on (given r g) (row n en c) ≡ Ok (h, id) → Drawn g h id
+  with_init : (c : Option (NodeId × BitVector)) → MayHaveWidth g en 1 → MayClear g c w → (r : Result BitVector FaultKind) → init_in w first ≡ r
+      → go_on (given r g) (row n en c) ≡ Ok (h, id) → Drawn g h id
   with_init c we wc (Ok init) is e = one_more below g h w (node.Reg n en c init) id l (width_is g n l there) (has_its_width g n there, we, wc, init_is first init is) refl e
   with_init c we wc (Err kind) is e = absurd cc
 
-  with_clear : MayHaveWidth g en 1 → MayHaveWidth g (clear_node cl) 1 → (r : Result (Option (NodeId × BitVector)) FaultKind) → clear_in w cl ≡ r → go_on (given r g) (λ c. given (init_in w first) >>= (λ init. row n en c init)) ≡ Ok (h, id) → Drawn g h id
+  with_clear : MayHaveWidth g en 1 → MayHaveWidth g (clear_node cl) 1 → (r : Result (Option (NodeId × BitVector)) FaultKind) → clear_in w cl ≡ r
+      → go_on (given r g) (λ c. given (init_in w first) >>= (λ init. row n en c init)) ≡ Ok (h, id) → Drawn g h id
   with_clear we wc (Ok c) is e = with_init c we (clear_is cl c wc is) (init_in w first) refl e
   with_clear we wc (Err kind) is e = absurd cc
 
@@ -89,6 +92,7 @@ module _ (below : Below) (g h : Graph) (n : NodeId) (en : Option NodeId) (cl : O
       by : (o : Option FaultKind) → reg_rule (option_map (width_at g) en) (option_map (width_at g) (clear_node cl)) ≡ o
           → go_on (unless o (g, tt {0})) (λ x. width n >>= (λ v. given (clear_in v cl) >>= (λ c. given (init_in v first) >>= (λ init. row n en c init)))) ≡ Ok (h, id) → Drawn g h id
       by None holds e' =
-          let parts : _ = and_parts (is_bit (option_map (width_at g) en)) (is_bit (option_map (width_at g) (clear_node cl))) (test_holds fault.WidthMismatch (is_bit (option_map (width_at g) en) && is_bit (option_map (width_at g) (clear_node cl))) holds) in
+          let parts : _ = and_parts (is_bit (option_map (width_at g) en)) (is_bit (option_map (width_at g) (clear_node cl)))
+          (test_holds fault.WidthMismatch (is_bit (option_map (width_at g) en) && is_bit (option_map (width_at g) (clear_node cl))) holds) in
           with_clear (bit_wide g en me parts.0) (bit_wide g (clear_node cl) mc parts.1) (clear_in w cl) refl e'
       by (Some kind) holds e' = absurd cc

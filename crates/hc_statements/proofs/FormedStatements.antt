@@ -73,8 +73,10 @@ module _ (below : Below) where
 
   pub ends_wire : (line : ℕ) (p : Place) (width : Outcome) (e : Elaborating) → IsFormedBody e → Ends (wire_step line p width e)
   ends_wire line p width e l =
-      ends_then e Any (given (key p) e) (λ k. given (and_then width as_width) >>= (λ w. is_new k >> (draw (wire w) >>= (λ id. declare id line >> bind k (target.Node id))))) (kept_given e Any (key p) l (λ k is. tt))
-      (λ f k lf gf any. ends_then f (λ g w. IsWidth w) (given (and_then width as_width) f) (λ w. is_new k >> (draw (wire w) >>= (λ id. declare id line >> bind k (target.Node id)))) (kept_given f (λ g w. IsWidth w) (and_then width as_width) lf (λ w is. width_of_outcome below width w is))
+      ends_then e Any (given (key p) e) (λ k. given (and_then width as_width) >>= (λ w. is_new k >> (draw (wire w) >>= (λ id. declare id line >> bind k (target.Node id)))))
+      (kept_given e Any (key p) l (λ k is. tt))
+      (λ f k lf gf any. ends_then f (λ g w. IsWidth w) (given (and_then width as_width) f) (λ w. is_new k >> (draw (wire w) >>= (λ id. declare id line >> bind k (target.Node id))))
+      (kept_given f (λ g w. IsWidth w) (and_then width as_width) lf (λ w is. width_of_outcome below width w is))
       (λ i w li gi b. ends_then i Any (is_new k i) (λ x. draw (wire w) >>= (λ id. declare id line >> bind k (target.Node id))) (kept_new i k li)
       (λ j x lj gj any. ends_then j IsNode (draw (wire w) j) (λ id. declare id line >> bind k (target.Node id)) (kept_wire j w lj b)
       (λ m id lm gm n. ends_then m Any (declare id line m) (λ y. bind k (target.Node id)) (kept_declared m id line lm)
@@ -83,8 +85,12 @@ module _ (below : Below) where
   ends_drive : (e : Elaborating) (id from : NodeId) → IsFormedBody e → IsWire e.graph id → IsNode e.graph from → Ends (drive id from e)
   ends_drive e id from l is_wire node =
       ends_changed e (drive_rule (width_at e.graph id) (width_at e.graph from) (is_driven_at e.graph id)) (with_driver e.graph id from)
-      (λ holds. (let same : _ = test_holds fault.WidthMismatch (width_at e.graph id == width_at e.graph from) (first_holds (rule fault.WidthMismatch (width_at e.graph id == width_at e.graph from)) (rule fault.DrivenTwice (not (is_driven_at e.graph id))) holds).0 in
-      (below.changes.driver e.graph id from l.graph is_wire node (eqb-true (width_at e.graph id) (width_at e.graph from) same), known_driven e.graph (with_driver e.graph id from) e.names id from l.names refl)))
+      (λ holds. (let same : _ = test_holds fault.WidthMismatch (width_at e.graph id == width_at e.graph from)
+      (first_holds (rule fault.WidthMismatch (width_at e.graph id == width_at e.graph from)) (rule fault.DrivenTwice (not (is_driven_at e.graph id))) holds).0 in (
+        below.changes.driver e.graph id from l.graph is_wire node (eqb-true (width_at e.graph id) (width_at e.graph from) same),
+        known_driven e.graph
+            (with_driver e.graph id from) e.names id from l.names refl,
+      )))
 
   pub ends_assign : (p : Place) (s : Signal) (e : Elaborating) → IsFormedBody e → Ends (assign_step p s e)
   ends_assign p s e l =
@@ -98,7 +104,8 @@ module _ (below : Below) where
   ends_put : (e : Elaborating) (w : Text) (t : Target) → IsFormedBody e → IsThere e.graph t → Ends (put_label w t e)
   ends_put e w (target.Node id) l there =
       ends_changed e (label_rule (has_node_label e.graph id) (is_port_node e.graph id)) (with_node_label e.graph id w)
-      (λ holds. (let parts : _ = and_parts (not (has_node_label e.graph id)) (not (is_port_node e.graph id)) (test_holds fault.RepeatedName (not (has_node_label e.graph id) && not (is_port_node e.graph id)) holds) in
+      (λ holds. (let parts : _ = and_parts (not (has_node_label e.graph id)) (not (is_port_node e.graph id))
+      (test_holds fault.RepeatedName (not (has_node_label e.graph id) && not (is_port_node e.graph id)) holds) in
       (below.changes.node_label e.graph id w l.graph there (not-true (is_port_node e.graph id) parts.1), known_node_label e.graph (with_node_label e.graph id w) e.names id w l.names refl)))
   ends_put e w (target.Memory id) l there =
       ends_changed e (label_rule (has_memory_label e.graph id) false) (with_memory_label e.graph id w)
@@ -110,7 +117,8 @@ module _ (below : Below) where
   pub ends_label : (p : Place) (w : Text) (e : Elaborating) → IsFormedBody e → Ends (label_step p w e)
   ends_label p w e l =
       ends_then e Any (given (key p) e) (λ k. meaning_of k >>= (λ t. demand fault.UnknownName t >>= (λ labelled. put_label w labelled))) (kept_given e Any (key p) l (λ k is. tt))
-      (λ f k lf gf any. ends_then f IsThere (demand fault.UnknownName (meaning f.names k) f) (λ labelled. put_label w labelled) (kept_demand f IsThere fault.UnknownName (meaning f.names k) lf (λ t is. known_meaning f.names k t f.graph is lf.names))
+      (λ f k lf gf any. ends_then f IsThere (demand fault.UnknownName (meaning f.names k) f) (λ labelled. put_label w labelled)
+      (kept_demand f IsThere fault.UnknownName (meaning f.names k) lf (λ t is. known_meaning f.names k t f.graph is lf.names))
       (λ i t li gi there. ends_put i w t li there))
 
   -- ---- registers
@@ -151,7 +159,8 @@ module _ (below : Below) where
     abbrev after_next : Key → NodeId → Steps (Unit {0})
     after_next k next = optional signal_node enable >>= after_enable k next
 
-  pub ends_reg : (p : Place) (s : Signal) (enable : Option Signal) (clear : Option (Signal × Outcome)) (number : Option Outcome) (e : Elaborating) → IsFormedBody e → Ends (reg_step p s enable clear number e)
+  pub ends_reg : (p : Place) (s : Signal) (enable : Option Signal) (clear : Option (Signal × Outcome)) (number : Option Outcome) (e : Elaborating) → IsFormedBody e
+      → Ends (reg_step p s enable clear number e)
   ends_reg p s enable clear number e l =
       ends_then e Any (given (key p) e) (λ k. signal_node s >>= after_next enable clear number k) (kept_given e Any (key p) l (λ k is. tt))
       (λ f k lf gf any. ends_then f IsNode (signal_node s f) (after_next enable clear number k) (kept_signal below f s lf)
@@ -180,7 +189,11 @@ module _ (below : Below) where
           let fit : _ = sizes n holds in
           let many : length (with_memory e n w).memories ≡ length e.graph.memories + 1 = length_push e.graph.memories (memory (nat_abs n) w) in
           ends_bound (with_graph e (with_memory e n w)) k (target.Memory (next_memory e.graph))
-          (record { graph = below.changes.memory e.graph (nat_abs n) w l.graph b fit.0 fit.1; names = known_longer e.names e.graph (with_memory e n w) l.names (omega arith) (omega (arith, many)) (omega arith) })
+          (record {
+            graph = below.changes.memory e.graph (nat_abs n) w l.graph b fit.0 fit.1;
+            names = known_longer e.names e.graph (with_memory e n w) l.names (omega arith)
+                (omega (arith, many)) (omega arith);
+          })
           (omega (arith, many))
       by (Some kind) holds = tt
 
@@ -195,15 +208,19 @@ module _ (below : Below) where
       ends_then e Any (given (key p) e) (λ k. given size >>= after_size width k) (kept_given e Any (key p) l (λ k is. tt))
       (λ f k lf gf any. ends_then f Any (given size f) (after_size width k) (kept_given f Any size lf (λ n is. tt))
       (λ g1 n l1 s1 any. ends_then g1 Any (given width g1) (after_width k n) (kept_given g1 Any width l1 (λ z is. tt))
-      (λ g2 z l2 s2 any. ends_then g2 (λ g w. IsWidth w) (given (as_width z) g2) (λ w. is_new k >> (draw (new_memory n w) >>= (λ id. bind k (target.Memory id)))) (kept_given g2 (λ g w. IsWidth w) (as_width z) l2 (λ w is. below.widths z w is))
+      (λ g2 z l2 s2 any. ends_then g2 (λ g w. IsWidth w) (given (as_width z) g2) (λ w. is_new k >> (draw (new_memory n w) >>= (λ id. bind k (target.Memory id))))
+      (kept_given g2 (λ g w. IsWidth w) (as_width z) l2 (λ w is. below.widths z w is))
       (λ g3 w l3 s3 b. ends_then g3 Any (is_new k g3) (λ x. draw (new_memory n w) >>= (λ id. bind k (target.Memory id))) (kept_new g3 k l3)
       (λ g4 x l4 s4 any. ends_memory_made g4 k n w l4 b)))))
 
-  ends_written : (e : Elaborating) (id : MemId) (enable addr value : NodeId) → IsFormedBody e → IsMemory e.graph id → IsNode e.graph enable → IsNode e.graph addr → IsNode e.graph value → Ends (write id enable addr value e)
+  ends_written : (e : Elaborating) (id : MemId) (enable addr value : NodeId) → IsFormedBody e → IsMemory e.graph id → IsNode e.graph enable → IsNode e.graph addr
+      → IsNode e.graph value → Ends (write id enable addr value e)
   ends_written e id enable addr value l there ne na nv =
       ends_changed e (write_rule (width_at e.graph enable) (width_at e.graph value) (memory_width_at e.graph id)) (with_write e.graph id (record { enable = enable; addr = addr; value = value }))
-      (λ holds. (let parts : _ = and_parts (width_at e.graph enable == 1) (width_at e.graph value == memory_width_at e.graph id) (test_holds fault.WidthMismatch ((width_at e.graph enable == 1) && (width_at e.graph value == memory_width_at e.graph id)) holds) in (
-        below.changes.write e.graph id (record { enable = enable; addr = addr; value = value }) l.graph there ne na nv (eqb-true (width_at e.graph enable) 1 parts.0) (eqb-true (width_at e.graph value) (memory_width_at e.graph id) parts.1),
+      (λ holds. (let parts : _ = and_parts (width_at e.graph enable == 1) (width_at e.graph value == memory_width_at e.graph id)
+      (test_holds fault.WidthMismatch ((width_at e.graph enable == 1) && (width_at e.graph value == memory_width_at e.graph id)) holds) in (
+        below.changes.write e.graph id (record { enable = enable; addr = addr; value = value }) l.graph there ne na nv (eqb-true (width_at e.graph enable) 1 parts.0)
+            (eqb-true (width_at e.graph value) (memory_width_at e.graph id) parts.1),
         known_written e.graph (with_write e.graph id (record { enable = enable; addr = addr; value = value })) e.names id (record { enable = enable; addr = addr; value = value }) l.names refl,
       )))
 

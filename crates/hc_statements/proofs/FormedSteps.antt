@@ -111,7 +111,8 @@ pub record Below : Type 0 where
   pub zeros : (w : ℕ) → IsWidth w → IsVector (record { width = w; value = 0 }) w
 
 -- what is drawn into the graph of a body
-pub kept_drawn : {A : Type 0} (e : Elaborating) (P : Graph → A → Type 0) (r : Result (Graph × A) FaultKind) → IsFormedBody e → ((h : Graph) (x : A) → r ≡ Ok (h, x) → IsFormed h × Grows e.graph h × P h x) → Keeps e P (lifted e r)
+pub kept_drawn : {A : Type 0} (e : Elaborating) (P : Graph → A → Type 0) (r : Result (Graph × A) FaultKind) → IsFormedBody e
+    → ((h : Graph) (x : A) → r ≡ Ok (h, x) → IsFormed h × Grows e.graph h × P h x) → Keeps e P (lifted e r)
 kept_drawn e P (Ok drawn) l kept =
     let k : IsFormed drawn.0 × Grows e.graph drawn.0 × P drawn.0 drawn.1 = kept drawn.0 drawn.1 refl in
     (record { graph = k.0; names = known_still e.names e.graph drawn.0 l.names k.1 }, k.1, k.2)

@@ -48,7 +48,9 @@ cut_widths : (ws : List ℕ) (i : ℕ) → i < length ws → drop i ws ≡ get_o
 cut_widths ws i within = rw add-one (drop-cons ws i 0 within)
 
 -- one head more among the inputs
-pub inputs_more : (done new all : List Port) (hs : List Head) (ws : List ℕ) (i : ℕ) (h : Head) → i < length hs → length ws ≡ length hs → h ≡ get_or hs i h → new ≡ (if h.is_input then done ++ port h.name (get_or ws i 0) ∷ [] else done) → done ++ inputs_of (drop i hs) (drop i ws) ≡ all → new ++ inputs_of (drop (i + 1) hs) (drop (i + 1) ws) ≡ all
+pub inputs_more : (done new all : List Port) (hs : List Head) (ws : List ℕ) (i : ℕ) (h : Head) → i < length hs → length ws ≡ length hs → h ≡ get_or hs i h
+    → new ≡ (if h.is_input then done ++ port h.name (get_or ws i 0) ∷ [] else done) → done ++ inputs_of (drop i hs) (drop i ws) ≡ all
+    → new ++ inputs_of (drop (i + 1) hs) (drop (i + 1) ws) ≡ all
 inputs_more done new all hs ws i h within same item e before =
     let rest : List Port = inputs_of (drop (i + 1) hs) (drop (i + 1) ws) in
     let p : Port = port h.name (get_or ws i 0) in
@@ -60,7 +62,9 @@ inputs_more done new all hs ws i h within same item e before =
     by false done p rest = refl
 
 -- and among the outputs
-pub outputs_more : (done new all : List Port) (hs : List Head) (ws : List ℕ) (i : ℕ) (h : Head) → i < length hs → length ws ≡ length hs → h ≡ get_or hs i h → new ≡ (if h.is_input then done else done ++ port h.name (get_or ws i 0) ∷ []) → done ++ outputs_of (drop i hs) (drop i ws) ≡ all → new ++ outputs_of (drop (i + 1) hs) (drop (i + 1) ws) ≡ all
+pub outputs_more : (done new all : List Port) (hs : List Head) (ws : List ℕ) (i : ℕ) (h : Head) → i < length hs → length ws ≡ length hs → h ≡ get_or hs i h
+    → new ≡ (if h.is_input then done else done ++ port h.name (get_or ws i 0) ∷ []) → done ++ outputs_of (drop i hs) (drop i ws) ≡ all
+    → new ++ outputs_of (drop (i + 1) hs) (drop (i + 1) ws) ≡ all
 outputs_more done new all hs ws i h within same item e before =
     let rest : List Port = outputs_of (drop (i + 1) hs) (drop (i + 1) ws) in
     let p : Port = port h.name (get_or ws i 0) in
@@ -72,7 +76,9 @@ outputs_more done new all hs ws i h within same item e before =
     by false done p rest = append_assoc done (p ∷ []) rest
 
 -- one width more
-pub widths_step : (env : Bindings) (taken taken2 : List (List ℕ)) (hs : List Head) (i : ℕ) (h : Head) (ws ws2 : List ℕ) (w : ℕ) (all : PortWidths) → i < length hs → h ≡ get_or hs i h → at_line h.line (width_of env taken h) ≡ Ok w → taken2 ≡ taken ++ h.name ∷ [] → ws2 ≡ ws ++ w ∷ [] → onto ws (widths_after env taken (drop i hs)) ≡ all → onto ws2 (widths_after env taken2 (drop (i + 1) hs)) ≡ all
+pub widths_step : (env : Bindings) (taken taken2 : List (List ℕ)) (hs : List Head) (i : ℕ) (h : Head) (ws ws2 : List ℕ) (w : ℕ) (all : PortWidths) → i < length hs
+    → h ≡ get_or hs i h → at_line h.line (width_of env taken h) ≡ Ok w → taken2 ≡ taken ++ h.name ∷ [] → ws2 ≡ ws ++ w ∷ []
+    → onto ws (widths_after env taken (drop i hs)) ≡ all → onto ws2 (widths_after env taken2 (drop (i + 1) hs)) ≡ all
 widths_step env taken taken2 hs i h ws ws2 w all within item is named more so_far =
     let rest : List (List ℕ) → PortWidths = λ t. widths_after env t (drop (i + 1) hs) in
     let step : widths_after env taken (drop i hs) ≡ before (Ok w) (rest (taken ++ h.name ∷ [])) =

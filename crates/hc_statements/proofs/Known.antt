@@ -33,7 +33,8 @@ there_longer (target.Node id) g h n m i there = omega (arith, n, there)
 there_longer (target.Memory id) g h n m i there = omega (arith, m, there)
 there_longer (target.Instance id) g h n m i there = omega (arith, i, there)
 
-pub known_longer : (names : Names) (g h : Graph) → AreKnown g names → length g.nodes ≤ length h.nodes → length g.memories ≤ length h.memories → length g.instances ≤ length h.instances → AreKnown h names
+pub known_longer : (names : Names) (g h : Graph) → AreKnown g names → length g.nodes ≤ length h.nodes → length g.memories ≤ length h.memories
+    → length g.instances ≤ length h.instances → AreKnown h names
 known_longer names g h known n m i x has = there_longer x.1 g h n m i (known x has)
 
 pub known_still : (names : Names) (g h : Graph) → AreKnown g names → Grows g h → AreKnown h names
@@ -145,15 +146,20 @@ one_longer : {A : Type 0} (xs : List A) (x : A) → length (xs ++ x ∷ []) ≡ 
 one_longer [] x = refl
 one_longer (y ∷ xs) x = ap suc (one_longer xs x)
 
-grown : (g h : Graph) (names more : Names) (name : List ℕ) (id : NodeId) → AreKnown g names → id ≡ next g → length h.nodes ≡ suc (length g.nodes) → h.memories ≡ g.memories → h.instances ≡ g.instances → more ≡ names ++ ((name, None), target.Node id) ∷ [] → AreKnown h more
+grown : (g h : Graph) (names more : Names) (name : List ℕ) (id : NodeId) → AreKnown g names → id ≡ next g → length h.nodes ≡ suc (length g.nodes)
+    → h.memories ≡ g.memories → h.instances ≡ g.instances → more ≡ names ++ ((name, None), target.Node id) ∷ [] → AreKnown h more
 grown g h names more name id known is nodes mems insts e =
     let m : length h.memories ≡ length g.memories = ap length mems in
     let i : length h.instances ≡ length g.instances = ap length insts in
     let place : id.0 ≡ length g.nodes = ap (λ (k : NodeId). k.0) is in
     known_added h names more (name, None) (target.Node id) (known_longer names g h known (omega (arith, nodes)) (omega (arith, m)) (omega (arith, i))) (omega (arith, place, nodes)) e
 
-pub known_input : (g h : Graph) (names more : Names) (name : List ℕ) (w : ℕ) (id : NodeId) → AreKnown g names → id ≡ next g → h ≡ with_input g name w → more ≡ names ++ ((name, None), target.Node id) ∷ [] → AreKnown h more
-known_input g h names more name w id known is e named = grown g h names more name id known is (ap (λ (k : Graph). length k.nodes) e ∙ one_longer g.nodes _) (ap (λ (k : Graph). k.memories) e) (ap (λ (k : Graph). k.instances) e) named
+pub known_input : (g h : Graph) (names more : Names) (name : List ℕ) (w : ℕ) (id : NodeId) → AreKnown g names → id ≡ next g → h ≡ with_input g name w
+    → more ≡ names ++ ((name, None), target.Node id) ∷ [] → AreKnown h more
+known_input g h names more name w id known is e named = grown g h names more name id known is (ap (λ (k : Graph). length k.nodes) e ∙ one_longer g.nodes _)
+    (ap (λ (k : Graph). k.memories) e) (ap (λ (k : Graph). k.instances) e) named
 
-pub known_output : (g h : Graph) (names more : Names) (name : List ℕ) (w : ℕ) (id : NodeId) → AreKnown g names → id ≡ next g → h ≡ with_output g name w → more ≡ names ++ ((name, None), target.Node id) ∷ [] → AreKnown h more
-known_output g h names more name w id known is e named = grown g h names more name id known is (ap (λ (k : Graph). length k.nodes) e ∙ one_longer g.nodes _) (ap (λ (k : Graph). k.memories) e) (ap (λ (k : Graph). k.instances) e) named
+pub known_output : (g h : Graph) (names more : Names) (name : List ℕ) (w : ℕ) (id : NodeId) → AreKnown g names → id ≡ next g → h ≡ with_output g name w
+    → more ≡ names ++ ((name, None), target.Node id) ∷ [] → AreKnown h more
+known_output g h names more name w id known is e named = grown g h names more name id known is (ap (λ (k : Graph). length k.nodes) e ∙ one_longer g.nodes _)
+    (ap (λ (k : Graph). k.memories) e) (ap (λ (k : Graph). k.instances) e) named

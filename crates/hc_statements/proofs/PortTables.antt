@@ -37,13 +37,15 @@ place_added [] name at none other = by (bytes_eq other name) (bytes_eq name othe
     by false true same = absurd cc
 place_added (e ∷ es) name at none other = by (bytes_eq name e.0) refl (λ rest. place_added es name at rest other)
   where
-    by : (t : Bool) → bytes_eq name e.0 ≡ t → (lookup (bytes_eq name) es ≡ None → lookup (bytes_eq other) (insert_entry bytes_eq es name at) ≡ option_or (lookup (bytes_eq other) es) (if bytes_eq name other then Some at else None))
+    by : (t : Bool) → bytes_eq name e.0 ≡ t
+        → (lookup (bytes_eq name) es ≡ None → lookup (bytes_eq other) (insert_entry bytes_eq es name at) ≡ option_or (lookup (bytes_eq other) es) (if bytes_eq name other then Some at else None))
         → lookup (bytes_eq other) (insert_entry bytes_eq (e ∷ es) name at) ≡ option_or (lookup (bytes_eq other) (e ∷ es)) (if bytes_eq name other then Some at else None)
     by true t rest = let is : Some e.1 ≡ None = rw t at none in absurd (cc)
     by false t rest = rw t (head (bytes_eq other e.0) (rest (rw t at none)))
       where
         head : (u : Bool) → lookup (bytes_eq other) (insert_entry bytes_eq es name at) ≡ option_or (lookup (bytes_eq other) es) (if bytes_eq name other then Some at else None)
-            → cond u (Some e.1) (lookup (bytes_eq other) (insert_entry bytes_eq es name at)) ≡ option_or (cond u (Some e.1) (lookup (bytes_eq other) es)) (if bytes_eq name other then Some at else None)
+            → cond u (Some e.1) (lookup (bytes_eq other) (insert_entry bytes_eq es name at)) ≡ option_or (cond u (Some e.1) (lookup (bytes_eq other) es))
+            (if bytes_eq name other then Some at else None)
         head true more = refl
         head false more = more
 
@@ -64,7 +66,8 @@ abbrev pub ArePlacesBefore : Table → ℕ → List Port → List Port → Type 
 ArePlacesBefore table at rest ports = (name : List ℕ) → option_or (lookup (bytes_eq name) table) (position_from (λ (p : Port). bytes_eq p.name name) at rest) ≡ port_place name ports
 
 pub before_more : (old new : Table) (p : Port) (at : ℕ) (rest ports : List Port) → IsWith p.name at old new → ArePlacesBefore old at (p ∷ rest) ports → ArePlacesBefore new (at + 1) rest ports
-before_more old new p at rest ports with so_far name = ap (λ (o : Option ℕ). option_or o (position_from (λ (q : Port). bytes_eq q.name name) (at + 1) rest)) (with name) ∙ by (lookup (bytes_eq name) old) (bytes_eq p.name name) (position_from (λ (q : Port). bytes_eq q.name name) (at + 1) rest) ∙ so_far name
+before_more old new p at rest ports with so_far name = ap (λ (o : Option ℕ). option_or o (position_from (λ (q : Port). bytes_eq q.name name) (at + 1) rest)) (with name)
+    ∙ by (lookup (bytes_eq name) old) (bytes_eq p.name name) (position_from (λ (q : Port). bytes_eq q.name name) (at + 1) rest) ∙ so_far name
   where
     by : (o : Option ℕ) (t : Bool) (q : Option ℕ) → option_or (option_or o (if t then Some at else None)) q ≡ option_or o (cond t (Some at) q)
     by None true q = refl

@@ -98,7 +98,14 @@ next_instance g = record { 0 = length g.instances }
 
 -- one instance more, and a node for each of its outputs
 abbrev pub instance : Ports → List NodeId → Draws InstId
-instance ports conns = λ g. Ok (record g { nodes = g.nodes ++ output_rows (length g.instances) 0 ports.outputs; instances = g.instances ++ record { ports = ports; conns = conns; label = None } ∷ [] }, next_instance g)
+instance ports conns = λ g. Ok (
+  record g {
+    nodes = g.nodes ++ output_rows (length g.instances) 0 ports.outputs;
+    instances = g.instances
+        ++ record { ports = ports; conns = conns; label = None } ∷ [];
+  },
+  next_instance g,
+)
 
 -- an instance under a new name, with its call
 abbrev pub placed : Key → ℕ → Call → Ports → List NodeId → Steps (Unit {0})

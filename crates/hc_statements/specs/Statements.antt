@@ -28,7 +28,8 @@ abbrev pub with_input : Graph → Text → ℕ → Graph
 with_input g name w = with_row (record g { ports = record { inputs = g.ports.inputs ++ port name w ∷ []; outputs = g.ports.outputs } }) (unlabelled w (node.Input (length g.ports.inputs)))
 
 abbrev pub with_output : Graph → Text → ℕ → Graph
-with_output g name w = with_row (record g { ports = record { inputs = g.ports.inputs; outputs = g.ports.outputs ++ port name w ∷ [] }; outputs = g.outputs ++ next g ∷ [] }) (unlabelled w (node.Wire None))
+with_output g name w = with_row (record g { ports = record { inputs = g.ports.inputs; outputs = g.ports.outputs ++ port name w ∷ [] }; outputs = g.outputs ++ next g ∷ [] })
+    (unlabelled w (node.Wire None))
 
 abbrev pub named : Elaborating → Text → Elaborating
 named e name = record e { names = e.names ++ ((name, None), target.Node (next e.graph)) ∷ [] }

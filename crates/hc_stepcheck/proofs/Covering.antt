@@ -24,7 +24,8 @@ port_inside : (g : Graph) (n port : ℕ) → IsLawful g → NodeAt g n (Input po
 port_inside g n port lawful at =
     let h : IsLawfulNode g at.0.width (Input port) = subst (λ (x : Node). IsLawfulNode g at.0.width x) at.2 (lawful.nodes n at.0 at.1).1 in slice_get_within g.ports.inputs port h.0 h.1
 
-pub inputs_given : (entries : List FormView) (form : FormView) (plan : List Part) (i : ℕ) (g : Graph) (count : ℕ) → g ≡ graph_of_kid entries form i → IsLawful g → length g.ports.inputs ≤ count → ((k : ℕ) → k < count → IsGiven plan (passed i k)) → AreInputsGiven entries form plan i
+pub inputs_given : (entries : List FormView) (form : FormView) (plan : List Part) (i : ℕ) (g : Graph) (count : ℕ) → g ≡ graph_of_kid entries form i → IsLawful g
+    → length g.ports.inputs ≤ count → ((k : ℕ) → k < count → IsGiven plan (passed i k)) → AreInputsGiven entries form plan i
 inputs_given entries form plan i g count e lawful l all port n at =
     all port (let w : port < length g.ports.inputs = port_inside g n port lawful (subst (λ (z : Graph). NodeAt z n (Input port)) (sym e) at) in omega (arith, w, l))
 
@@ -39,7 +40,8 @@ inside_of plan j f (inr b) h = absurd (none (subst (λ o. Has (facts (steps_of o
 pub inside : (plan : List Part) (j : ℕ) (f : Fact) → Has (facts (steps_at plan j)) f → j < length plan
 inside plan j f h = inside_of plan j f (below_or_past j (length plan)) h
 
-pub runs_given : (plans : List PlanView) (form : FormView) (plan : List Part) (i : ℕ) (kid : PlanView) (parts : List Part) (count m : ℕ) → plan_in plans (slice_get form.kids i) ≡ Some kid → parts ≡ kid.parts → count ≡ length parts → count ≤ m
+pub runs_given : (plans : List PlanView) (form : FormView) (plan : List Part) (i : ℕ) (kid : PlanView) (parts : List Part) (count m : ℕ)
+    → plan_in plans (slice_get form.kids i) ≡ Some kid → parts ≡ kid.parts → count ≡ length parts → count ≤ m
     → ((k : ℕ) → k < m → IsGiven plan (ran i k)) → AreRunsGiven plans form plan i
 runs_given plans form plan i kid parts count m e x c l all part f h =
     all part (let w : part < length parts = inside parts part f (subst (λ z. Has (facts (steps_at z part)) f) (ap parts_in e ∙ sym x) h) in omega (arith, w, c, l))
@@ -47,14 +49,17 @@ runs_given plans form plan i kid parts count m e x c l all part f h =
 no_node : (n : ℕ) (x : Node) → NodeAt empty n x → ⊥
 no_node n x at = cc (at.1)
 
-kid_given_past : (entries : List FormView) (plans : List PlanView) (form : FormView) (plan : List Part) (i : ℕ) → length form.kids ≤ i → AreInputsGiven entries form plan i × AreRunsGiven plans form plan i
+kid_given_past : (entries : List FormView) (plans : List PlanView) (form : FormView) (plan : List Part) (i : ℕ) → length form.kids ≤ i
+    → AreInputsGiven entries form plan i × AreRunsGiven plans form plan i
 kid_given_past entries plans form plan i l =
     let e : slice_get form.kids i ≡ None = slice_get_past form.kids i l in (
       (λ port n at. absurd (no_node n (Input port) (subst (λ o. NodeAt (circuit_in (entry_in entries o)) n (Input port)) e at))),
       (λ part f h. let w : part < 0 = inside [] part f (subst (λ o. Has (facts (steps_at (parts_in (plan_in plans o)) part)) f) e h) in absurd (omega (arith, w))),
     )
 
-pub kids_given : (entries : List FormView) (plans : List PlanView) (form : FormView) (plan : List Part) (m : ℕ) → length form.kids ≤ m → ((k : ℕ) → k < m → AreInputsGiven entries form plan k × AreRunsGiven plans form plan k) → (i : ℕ) → AreInputsGiven entries form plan i × AreRunsGiven plans form plan i
+pub kids_given : (entries : List FormView) (plans : List PlanView) (form : FormView) (plan : List Part) (m : ℕ) → length form.kids ≤ m
+    → ((k : ℕ) → k < m → AreInputsGiven entries form plan k × AreRunsGiven plans form plan k) → (i : ℕ)
+    → AreInputsGiven entries form plan i × AreRunsGiven plans form plan i
 kids_given entries plans form plan m l all i =
     elim (below_or_past i m) [ inl a ↦ all i a | inr b ↦ kid_given_past entries plans form plan i (omega (arith, l, b)) ]
 
@@ -70,7 +75,8 @@ has_fact_of : (steps : List Step) (step : Step) → Has steps step → Has (fact
 has_fact_of _ _ first = first
 has_fact_of _ step (later h) = later (has_fact_of _ step h)
 
-pub listed_all : (entries : List FormView) (plans : List PlanView) (form : FormView) (plan : PlanView) (count m : ℕ) → count ≡ length plan.parts → count ≤ m → ((k : ℕ) → k < m → AreListedIn entries plans form plan k) → (j : ℕ) → AreListedIn entries plans form plan j
+pub listed_all : (entries : List FormView) (plans : List PlanView) (form : FormView) (plan : PlanView) (count m : ℕ) → count ≡ length plan.parts → count ≤ m
+    → ((k : ℕ) → k < m → AreListedIn entries plans form plan k) → (j : ℕ) → AreListedIn entries plans form plan j
 listed_all entries plans form plan count m c l all j step h =
     all j (let w : j < length plan.parts = inside plan.parts j (fact step) (has_fact_of (steps_at plan.parts j) step h) in omega (arith, w, c, l)) step h
 
@@ -92,24 +98,28 @@ kid_noted_in plans noted (Some id) b w h = at (slice_get plans id.0) refl h
     at None e x = let l : b < 0 = inside [] b (made w) x in absurd (omega (arith, l))
     at (Some plan) e x = noted id.0 plan e b w x
 
-reader : (entries : List FormView) (plans : List PlanView) (form : FormView) (plan : PlanView) → ((j : ℕ) → AreListedIn entries plans form plan j) → (j n : ℕ) → Reads form.circuit plan.parts j n → IsReaderListed form.circuit plan j n
+reader : (entries : List FormView) (plans : List PlanView) (form : FormView) (plan : PlanView) → ((j : ℕ) → AreListedIn entries plans form plan j) → (j n : ℕ)
+    → Reads form.circuit plan.parts j n → IsReaderListed form.circuit plan j n
 reader entries plans form plan listed j n (by_make {m = m} x h at f) = (listed j (make m) h x at).0 (id_of n) f
 reader entries plans form plan listed j n (by_pass {i = i} {port = port} h) = listed j (pass n i port) h
 
-module _ (entries : List FormView) (plans : List PlanView) (form : FormView) (plan : PlanView) (all_noted : AreNoted plans) (noted : IsNoted plan) (listed : (j : ℕ) → AreListedIn entries plans form plan j) where
+module _ (entries : List FormView) (plans : List PlanView) (form : FormView) (plan : PlanView) (all_noted : AreNoted plans) (noted : IsNoted plan)
+    (listed : (j : ℕ) → AreListedIn entries plans form plan j) where
   reads : (a j n : ℕ) → Has (facts (steps_at plan.parts a)) (made n) → Reads form.circuit plan.parts j n → ¬ (a ≡ j) → Has (row plan.readers a) j
   reads a j n h r d =
       let e : a ≡ part_of plan.spots n = noted a n h in
       let l : a < length plan.parts = inside plan.parts a (made n) h in
       subst (λ z. Has (row plan.readers z) j) (sym e) ((reader entries plans form plan listed j n r).0 (λ q. d (e ∙ q)) (subst (λ z. z < length plan.parts) e l))
 
-  taken : (a j i b w : ℕ) → Has (steps_at plan.parts a) (run i b) → Has (facts (steps_at (parts_of_kid plans form i) b)) (made w) → Takes (graph_of_kid entries form) plan.parts j i w → ¬ (a ≡ j) → Has (row plan.takers a) j
+  taken : (a j i b w : ℕ) → Has (steps_at plan.parts a) (run i b) → Has (facts (steps_at (parts_of_kid plans form i) b)) (made w)
+      → Takes (graph_of_kid entries form) plan.parts j i w → ¬ (a ≡ j) → Has (row plan.takers a) j
   taken a j i b w h k (by_take {m = m} {port = port} t o) d =
       let q : b ≡ part_of_kid plans form i w = kid_noted_in plans all_noted (slice_get form.kids i) b w k in
       let e : a ≡ ran_at plan.first_part plan.ran i (part_of_kid plans form i w) = listed a (run i b) h ∙ ap (ran_at plan.first_part plan.ran i) q in
       subst (λ z. Has (row plan.takers z) j) (sym e) (listed j (take m i port) t (id_of w) o (λ z. d (e ∙ z)))
 
-  pub compiled : ((j : ℕ) → IsPartReady entries plans form plan.parts j) → AreNodesGiven form.circuit plan.parts → ((i : ℕ) → AreInputsGiven entries form plan.parts i × AreRunsGiven plans form plan.parts i) → IsCompiled entries plans form plan
+  pub compiled : ((j : ℕ) → IsPartReady entries plans form plan.parts j) → AreNodesGiven form.circuit plan.parts
+      → ((i : ℕ) → AreInputsGiven entries form plan.parts i × AreRunsGiven plans form plan.parts i) → IsCompiled entries plans form plan
   compiled ready nodes kids = record {
     is_plan = record {
       parts = ready;
@@ -130,7 +140,8 @@ module _ (entries : List FormView) (plans : List PlanView) (form : FormView) (pl
 
 -- ---- spots
 
-pub steps_noted : (plan : PlanView) (a count m : ℕ) → count ≡ length (steps_at plan.parts a) → count ≤ m → ((k : ℕ) → k < m → (x : Step) → slice_get (steps_at plan.parts a) k ≡ Some x → IsStepNoted plan a x) → AreStepsNoted plan a
+pub steps_noted : (plan : PlanView) (a count m : ℕ) → count ≡ length (steps_at plan.parts a) → count ≤ m
+    → ((k : ℕ) → k < m → (x : Step) → slice_get (steps_at plan.parts a) k ≡ Some x → IsStepNoted plan a x) → AreStepsNoted plan a
 steps_noted plan a count m c l all step h =
     let r : (i : ℕ) × (slice_get (steps_at plan.parts a) i ≡ Some step) = has_index h in
     all r.0 (let w : r.0 < length (steps_at plan.parts a) = slice_get_within (steps_at plan.parts a) r.0 step r.1 in omega (arith, w, c, l)) step r.1

@@ -11,7 +11,8 @@ use Rattle.hc_steps.specs.Plan.{Part, Fact, made, facts, steps_at, constant, inp
 use Rattle.hc_steps.specs.Views.{IsKnownAt, AreKnownAt}
 use Rattle.hc_steps.proofs.Lists.{has_at, has_taken}
 
-pub before_is : (plan : List Part) (j b : ℕ) (own it : Part) (m n : ℕ) → slice_get plan j ≡ Some own → slice_get plan b ≡ Some it → m ≡ it.needs → n ≡ own.needs → b < j → ((k : ℕ) → IsBitSet m k → IsBitSet n k) → IsBefore plan j b
+pub before_is : (plan : List Part) (j b : ℕ) (own it : Part) (m n : ℕ) → slice_get plan j ≡ Some own → slice_get plan b ≡ Some it → m ≡ it.needs → n ≡ own.needs → b < j
+    → ((k : ℕ) → IsBitSet m k → IsBitSet n k) → IsBefore plan j b
 before_is plan j b own it m n e f x y l w = (l, (λ k h. subst (λ o. NeedsIn o k) (sym e) (subst (λ z. IsBitSet z k) y (w k (subst (λ z. IsBitSet z k) (sym x) (subst (λ o. NeedsIn o k) f h))))))
 
 pub needs_is : (plan : List Part) (j k : ℕ) (it : Part) (m : ℕ) → slice_get plan j ≡ Some it → m ≡ it.needs → IsBitSet m k → NeedsInput plan j k
@@ -40,5 +41,6 @@ more_known g plan j s id ids k a m (later h) = a m h
 
 -- ---- parts that do not come before
 
-pub apart_is : (plan : List Part) (j b : ℕ) (own it : Part) (m n : ℕ) → slice_get plan j ≡ Some own → slice_get plan b ≡ Some it → m ≡ it.needs → n ≡ own.needs → IsBefore plan j b → (k : ℕ) → IsBitSet m k → IsBitSet n k
+pub apart_is : (plan : List Part) (j b : ℕ) (own it : Part) (m n : ℕ) → slice_get plan j ≡ Some own → slice_get plan b ≡ Some it → m ≡ it.needs → n ≡ own.needs
+    → IsBefore plan j b → (k : ℕ) → IsBitSet m k → IsBitSet n k
 apart_is plan j b own it m n e f x y w k h = subst (λ z. IsBitSet z k) (sym y) (subst (λ o. NeedsIn o k) e (w.1 k (subst (λ o. NeedsIn o k) (sym f) (subst (λ z. IsBitSet z k) x h))))

@@ -24,7 +24,8 @@ IsPartReady entries plans form plan j = AreReady form.circuit (graph_of_kid entr
 
 -- part j is listed with those that read a node
 abbrev pub IsReaderListed : Graph → PlanView → ℕ → ℕ → Type 0
-IsReaderListed g plan j n = (¬ (part_of plan.spots n ≡ j) → part_of plan.spots n < length plan.parts → Has (row plan.readers (part_of plan.spots n)) j) × ((k : ℕ) → NodeAt g n (Input k) → Has (row plan.input_readers k) j)
+IsReaderListed g plan j n = (¬ (part_of plan.spots n ≡ j) → part_of plan.spots n < length plan.parts → Has (row plan.readers (part_of plan.spots n)) j)
+    × ((k : ℕ) → NodeAt g n (Input k) → Has (row plan.input_readers k) j)
 
 abbrev pub AreReadersListed : Graph → PlanView → ℕ → List NodeId → Type 0
 AreReadersListed g plan j ids = (n : NodeId) → Has ids n → IsReaderListed g plan j n.0
@@ -34,7 +35,8 @@ abbrev pub IsListed : List FormView → List PlanView → FormView → PlanView 
 IsListed entries plans form plan j (make m) = (x : Node) → NodeAt form.circuit m x → AreReadersListed form.circuit plan j (comb_fanin x) × (IsState x → Has plan.state_parts j)
 IsListed entries plans form plan j (pass n i port) = IsReaderListed form.circuit plan j n
 IsListed entries plans form plan j (take m i port) =
-    (w : NodeId) → slice_get (graph_of_kid entries form i).outputs port ≡ Some w → ¬ (ran_at plan.first_part plan.ran i (part_of_kid plans form i w.0) ≡ j) → Has (row plan.takers (ran_at plan.first_part plan.ran i (part_of_kid plans form i w.0))) j
+    (w : NodeId) → slice_get (graph_of_kid entries form i).outputs port ≡ Some w → ¬ (ran_at plan.first_part plan.ran i (part_of_kid plans form i w.0) ≡ j)
+    → Has (row plan.takers (ran_at plan.first_part plan.ran i (part_of_kid plans form i w.0))) j
 IsListed entries plans form plan j (run i b) = j ≡ ran_at plan.first_part plan.ran i b
 
 -- ---- coverage

@@ -7,13 +7,16 @@ use Rattle.hc_paths.proofs.Picked.{to_bit, from_bit}
 
 -- the bits that two masks have in common
 pub and_left : (a b k : ℕ) → IsBitSet (bit_and a b) k → IsBitSet a k
-and_left a b k h = from_bit a k (let e : bit_at (bit_and a b) k ≡ min (bit_at a k) (bit_at b k) = bit_at_and a b k in let q : bit_at (bit_and a b) k ≡ 1 = to_bit (bit_and a b) k h in let l : bit_at a k < 2 = bit_at-lt a k in omega (arith, e, q, l))
+and_left a b k h = from_bit a k (let e : bit_at (bit_and a b) k ≡ min (bit_at a k) (bit_at b k) = bit_at_and a b k in let q : bit_at (bit_and a b) k ≡ 1 = to_bit (bit_and a b) k h
+    in let l : bit_at a k < 2 = bit_at-lt a k in omega (arith, e, q, l))
 
 pub and_right : (a b k : ℕ) → IsBitSet (bit_and a b) k → IsBitSet b k
-and_right a b k h = from_bit b k (let e : bit_at (bit_and a b) k ≡ min (bit_at a k) (bit_at b k) = bit_at_and a b k in let q : bit_at (bit_and a b) k ≡ 1 = to_bit (bit_and a b) k h in let l : bit_at b k < 2 = bit_at-lt b k in omega (arith, e, q, l))
+and_right a b k h = from_bit b k (let e : bit_at (bit_and a b) k ≡ min (bit_at a k) (bit_at b k) = bit_at_and a b k in let q : bit_at (bit_and a b) k ≡ 1 = to_bit (bit_and a b) k h
+    in let l : bit_at b k < 2 = bit_at-lt b k in omega (arith, e, q, l))
 
 pub and_both : (a b k : ℕ) → IsBitSet a k → IsBitSet b k → IsBitSet (bit_and a b) k
-and_both a b k x y = from_bit (bit_and a b) k (let e : bit_at (bit_and a b) k ≡ min (bit_at a k) (bit_at b k) = bit_at_and a b k in let p : bit_at a k ≡ 1 = to_bit a k x in let q : bit_at b k ≡ 1 = to_bit b k y in omega (arith, e, p, q))
+and_both a b k x y = from_bit (bit_and a b) k (let e : bit_at (bit_and a b) k ≡ min (bit_at a k) (bit_at b k) = bit_at_and a b k in let p : bit_at a k ≡ 1 = to_bit a k x
+    in let q : bit_at b k ≡ 1 = to_bit b k y in omega (arith, e, p, q))
 
 -- a mask whose common bits with another are its own lies within it
 pub within : (a b : ℕ) → bit_and a b ≡ a → (k : ℕ) → IsBitSet a k → IsBitSet b k

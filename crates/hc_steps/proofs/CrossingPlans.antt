@@ -191,7 +191,13 @@ parent_parts zero = (
         (
           (parent_inst, refl, inr first),
           (
-            (parent_inst, needs_1 (passed 0 1 ∷ made 3 ∷ made 4 ∷ ran 0 0 ∷ passed 0 0 ∷ []) (inr first), before_1 (passed 0 1 ∷ made 3 ∷ made 4 ∷ ran 0 0 ∷ passed 0 0 ∷ []) (inr (later (later (later first)))), omega arith),
+            (
+              parent_inst,
+              needs_1 (passed 0 1 ∷ made 3 ∷ made 4 ∷ ran 0 0 ∷ passed 0 0 ∷ []) (inr first),
+              before_1 (passed 0 1 ∷ made 3 ∷ made 4 ∷ ran 0 0 ∷ passed 0 0 ∷ [])
+                  (inr (later (later (later first)))),
+              omega arith,
+            ),
             (
               (parent_1, at parent 1 (InstOut (record { 0 = 0 }) 1) refl, (id_of 3, 1, refl, later first, inr first)),
               (

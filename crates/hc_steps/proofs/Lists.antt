@@ -43,7 +43,8 @@ below_or_at zero (suc i) l = inl (omega arith)
 below_or_at (suc k) zero l = absurd (omega (arith, l))
 below_or_at (suc k) (suc i) l = elim (below_or_at k i (omega (arith, l))) [ inl b ↦ inl (omega (arith, b)) | inr e ↦ inr (ap suc e) ]
 
-pub one_more : {X : Type 0} (P : X → Type 0) (xs : List X) (i : ℕ) (x : X) → slice_get xs i ≡ Some x → P x → ((k : ℕ) (m : X) → k < i → slice_get xs k ≡ Some m → P m) → (k : ℕ) (m : X) → k < i + 1 → slice_get xs k ≡ Some m → P m
+pub one_more : {X : Type 0} (P : X → Type 0) (xs : List X) (i : ℕ) (x : X) → slice_get xs i ≡ Some x → P x → ((k : ℕ) (m : X) → k < i → slice_get xs k ≡ Some m → P m)
+    → (k : ℕ) (m : X) → k < i + 1 → slice_get xs k ≡ Some m → P m
 one_more P xs i x e p all k m l f = elim (below_or_at k i l) [ inl b ↦ all k m b f | inr q ↦ subst P (same_some x m (sym e ∙ ap (slice_get xs) (sym q) ∙ f)) p ]
 
 pub all_of : {X : Type 0} (P : X → Type 0) (xs : List X) (i : ℕ) → length xs ≤ i → ((k : ℕ) (m : X) → k < i → slice_get xs k ≡ Some m → P m) → (m : X) → Has xs m → P m

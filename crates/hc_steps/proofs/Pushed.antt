@@ -25,13 +25,19 @@ module _ (g : Graph) (graphs : ℕ → Graph) (plans : ℕ → List Part) where
   moved known so_far x steps _ (inr (inr first)) = inr (inl first)
   moved known so_far x steps f (inr (inr (later h))) = inr (inr h)
 
-  pushed_on : (known : Fact → Type 0) (so_far : List Fact) (steps : List Step) (s : Step) → AreReady g graphs plans known so_far steps → IsReady g graphs plans (Either known so_far steps) s → AreReady g graphs plans known so_far (steps ++ s ∷ [])
+  pushed_on : (known : Fact → Type 0) (so_far : List Fact) (steps : List Step) (s : Step) → AreReady g graphs plans known so_far steps
+      → IsReady g graphs plans (Either known so_far steps) s → AreReady g graphs plans known so_far (steps ++ s ∷ [])
   pushed_on known so_far [] s a r = (ready_more (Either known so_far []) (λ f. known f ⊎ Has so_far f) (at_end known so_far) s r, tt)
-  pushed_on known so_far (x ∷ steps) s a r = (a.0, pushed_on known (fact x ∷ so_far) steps s a.1 (ready_more (Either known so_far (x ∷ steps)) (Either known (fact x ∷ so_far) steps) (moved known so_far x steps) s r))
+  pushed_on known so_far (x ∷ steps) s a r = (
+    a.0,
+    pushed_on known (fact x ∷ so_far) steps s a.1
+        (ready_more (Either known so_far (x ∷ steps)) (Either known (fact x ∷ so_far) steps) (moved known so_far x steps) s r),
+  )
 
   from_start : (known : Fact → Type 0) (steps : List Step) (f : Fact) → known f ⊎ Has (facts steps) f → Either known [] steps f
   from_start known steps f (inl k) = inl k
   from_start known steps f (inr h) = inr (inr h)
 
-  pub pushed : (known : Fact → Type 0) (steps : List Step) (s : Step) → AreReady g graphs plans known [] steps → IsReady g graphs plans (λ f. known f ⊎ Has (facts steps) f) s → AreReady g graphs plans known [] (steps ++ s ∷ [])
+  pub pushed : (known : Fact → Type 0) (steps : List Step) (s : Step) → AreReady g graphs plans known [] steps
+      → IsReady g graphs plans (λ f. known f ⊎ Has (facts steps) f) s → AreReady g graphs plans known [] (steps ++ s ∷ [])
   pushed known steps s a r = pushed_on known [] steps s a (ready_more (λ f. known f ⊎ Has (facts steps) f) (Either known [] steps) (from_start known steps) s r)

@@ -101,7 +101,8 @@ IsReady g graphs plans known (make n) = Reached g (node n) × ((x : Node) × Nod
 IsReady g graphs plans known (take n i port) = Reached g (node n) × NodeAt g n (InstOut (record { 0 = i }) port)
     × ((w : NodeId) × (part : ℕ) × (slice_get (graphs i).outputs port ≡ Some w) × Has (facts (steps_at (plans i) part)) (made w.0) × known (ran i part))
 IsReady g graphs plans known (pass n i port) = Reached g (inst i) × (connection g i port ≡ Some (id_of n)) × known (made n)
-IsReady g graphs plans known (run i part) = Reached g (inst i) × ((k : ℕ) → NeedsInput (plans i) part k → known (passed i k)) × ((b : ℕ) → IsBefore (plans i) part b → known (ran i b)) × (part < length (plans i))
+IsReady g graphs plans known (run i part) = Reached g (inst i) × ((k : ℕ) → NeedsInput (plans i) part k → known (passed i k))
+    × ((b : ℕ) → IsBefore (plans i) part b → known (ran i b)) × (part < length (plans i))
 
 -- Each step may come after those before it.
 abbrev pub AreReady : Graph → (ℕ → Graph) → (ℕ → List Part) → (Fact → Type 0) → List Fact → List Step → Type 0

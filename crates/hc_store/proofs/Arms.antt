@@ -32,14 +32,17 @@ IsPlanOf g p found = (id : EntryId) (form : FormView) (plan : PlanView) → IsIn
 module _ (g : Given) (fit : IsFit g) (p part n : ℕ) (at : IsStepAt g p part (make n)) where
   -- ---- the number of a node
 
-  module _ (values : List BitVector) (wide : (id : EntryId) (form : FormView) (plan : PlanView) → IsInstance g p id form plan → widths values ≡ node_widths form.circuit.nodes) (f : FormView) (found : IsFormOf g p f) (circuit : Graph) (circuit_is : circuit ≡ f.circuit) where
+  module _ (values : List BitVector) (wide : (id : EntryId) (form : FormView) (plan : PlanView) → IsInstance g p id form plan → widths values ≡ node_widths form.circuit.nodes)
+      (f : FormView) (found : IsFormOf g p f) (circuit : Graph) (circuit_is : circuit ≡ f.circuit) where
     same_circuit : (id : EntryId) (form : FormView) (plan : PlanView) → IsInstance g p id form plan → circuit ≡ form.circuit
     same_circuit id form plan is = circuit_is ∙ ap (λ (x : FormView). x.circuit) (sym (found id form plan is))
 
     pub node_within : n < length circuit.nodes
-    node_within = let s = step_fits g p fit part (make n) at in let l = slice_get_within at.1.circuit.nodes n s.0 s.1 in let e : length circuit.nodes ≡ length at.1.circuit.nodes = ap (λ (x : Graph). length x.nodes) (same_circuit at.0 at.1 at.2 at.3) in omega (arith, l, e)
+    node_within = let s = step_fits g p fit part (make n) at in let l = slice_get_within at.1.circuit.nodes n s.0 s.1
+        in let e : length circuit.nodes ≡ length at.1.circuit.nodes = ap (λ (x : Graph). length x.nodes) (same_circuit at.0 at.1 at.2 at.3) in omega (arith, l, e)
 
-    pub rows_there : (registers : List BitVector) (words : List (List BitVector)) → registers ≡ row_at g.registers p → words ≡ row_at g.words p → AreRowsOf circuit (record { values = values; registers = registers; memories = words })
+    pub rows_there : (registers : List BitVector) (words : List (List BitVector)) → registers ≡ row_at g.registers p → words ≡ row_at g.words p
+        → AreRowsOf circuit (record { values = values; registers = registers; memories = words })
     rows_there registers words r w =
         let f = fits_here g p fit at.0 at.1 at.2 at.3 in
         let e : at.1.circuit ≡ circuit = sym (same_circuit at.0 at.1 at.2 at.3) in
@@ -47,14 +50,18 @@ module _ (g : Given) (fit : IsFit g) (p part n : ℕ) (at : IsStepAt g p part (m
         let b : AreRowsOf circuit (kept_of g values p) = subst (λ (x : Graph). AreRowsOf x (kept_of g values p)) e a in
         subst (λ (k : Kept). AreRowsOf circuit k) (same_kept registers words r w) b
       where
-        same_kept : (registers : List BitVector) (words : List (List BitVector)) → registers ≡ row_at g.registers p → words ≡ row_at g.words p → kept_of g values p ≡ record { values = values; registers = registers; memories = words }
+        same_kept : (registers : List BitVector) (words : List (List BitVector)) → registers ≡ row_at g.registers p → words ≡ row_at g.words p
+            → kept_of g values p ≡ record { values = values; registers = registers; memories = words }
         same_kept registers words r w = cc
 
-    pub width_found : (id : EntryId) (form : FormView) (plan : PlanView) → IsInstance g p id form plan → (node step : NodeId) (w : ℕ) → step ≡ node → HasWidth circuit step w → HasWidth form.circuit node w
+    pub width_found : (id : EntryId) (form : FormView) (plan : PlanView) → IsInstance g p id form plan → (node step : NodeId) (w : ℕ) → step ≡ node
+        → HasWidth circuit step w → HasWidth form.circuit node w
     width_found id form plan is node step w same h = subst (λ (x : Graph). HasWidth x node w) (same_circuit id form plan is) (subst (λ (k : NodeId). HasWidth circuit k w) same h)
 
-    pub value_found : (id : EntryId) (form : FormView) (plan : PlanView) → IsInstance g p id form plan → (registers : List BitVector) (words : List (List BitVector)) → registers ≡ row_at g.registers p → words ≡ row_at g.words p
-        → (node step : NodeId) (x : ℕ) → step ≡ node → IsValue circuit (record { values = values; registers = registers; memories = words }) step.0 x → IsValue form.circuit (kept_of g values p) node.0 x
+    pub value_found : (id : EntryId) (form : FormView) (plan : PlanView) → IsInstance g p id form plan → (registers : List BitVector) (words : List (List BitVector))
+        → registers ≡ row_at g.registers p → words ≡ row_at g.words p
+        → (node step : NodeId) (x : ℕ) → step ≡ node → IsValue circuit (record { values = values; registers = registers; memories = words }) step.0 x
+        → IsValue form.circuit (kept_of g values p) node.0 x
     value_found id form plan is registers words r w node step x same v =
         let a : IsValue circuit (kept_of g values p) step.0 x = subst (λ (k : Kept). IsValue circuit k step.0 x) (same_kept r w) v in
         let b : IsValue circuit (kept_of g values p) node.0 x = subst (λ (k : NodeId). IsValue circuit (kept_of g values p) k.0 x) same a in
@@ -131,7 +138,8 @@ module _ (g : Given) (fit : IsFit g) (p part n i port : ℕ) (at : IsStepAt g p 
             let e : wire.0 ≡ s.3.0 = ap (λ (w : NodeId). w.0) (take_wire d wire wire_is) in
             omega (arith, l, e)
 
-        module _ (x : BitVector) (has : slice_get (row_at old.values q) wire.0 ≡ Some x) (the_plan : PlanView) (planned : IsPlanOf g p the_plan) (readers : List ℕ) (readers_are : readers ≡ row the_plan.readers part) (put : IsRowPut g.up p n x readers old new) where
+        module _ (x : BitVector) (has : slice_get (row_at old.values q) wire.0 ≡ Some x) (the_plan : PlanView) (planned : IsPlanOf g p the_plan) (readers : List ℕ)
+            (readers_are : readers ≡ row the_plan.readers part) (put : IsRowPut g.up p n x readers old new) where
           take_put : IsRowPut g.up p n x (row at.2.readers part) old new
           take_put = subst (λ (ks : List ℕ). IsRowPut g.up p n x ks old new) (readers_are ∙ ap (λ (r : PlanView). row r.readers part) (sym (planned at.0 at.1 at.2 at.3))) put
 
@@ -148,7 +156,8 @@ module _ (g : Given) (fit : IsFit g) (p part n i port : ℕ) (at : IsStepAt g p 
               let s = step_fits g p fit part (take n i port) at in
               let k = kid_is g fit p i q at.0 at.1 at.2 at.3 s.1 s.6.entry place s.2 s.6.found in
               advances_put g p n x (row at.2.readers part) old new store take_within take_there
-              (λ y e. width_there g fit p at.0 at.1 at.2 at.3 old new store n s.0 y s.4 e ∙ sym (same_width (row_at old.values q) s.2.circuit.nodes s.3.0 x s.8.0 (store.values q s.1 s.2 k.0 k.1) at_wire s.8.1 ∙ s.8.2)) take_put
+              (λ y e. width_there g fit p at.0 at.1 at.2 at.3 old new store n s.0 y s.4 e
+              ∙ sym (same_width (row_at old.values q) s.2.circuit.nodes s.3.0 x s.8.0 (store.values q s.1 s.2 k.0 k.1) at_wire s.8.1 ∙ s.8.2)) take_put
 
 module _ (g : Given) (fit : IsFit g) (p part n i port : ℕ) (at : IsStepAt g p part (pass n i port)) (old new : Store) (store : IsStoreOf g old) where
   pub pass_first : p < length g.first
@@ -167,12 +176,14 @@ module _ (g : Given) (fit : IsFit g) (p part n i port : ℕ) (at : IsStepAt g p 
         let k = kid_is g fit p i q at.0 at.1 at.2 at.3 s.1 s.5.entry place s.2 s.5.found in
         there (row_at old.values q) s.2.circuit.nodes port s.3 (store.values q s.1 s.2 k.0 k.1) s.6
 
-    module _ (x : BitVector) (has : slice_get (row_at old.values p) n ≡ Some x) (the_plan : PlanView) (planned : IsPlanOf g q the_plan) (readers : List ℕ) (readers_are : readers ≡ row the_plan.input_readers port) (put : IsRowPut g.up q port x readers old new) where
+    module _ (x : BitVector) (has : slice_get (row_at old.values p) n ≡ Some x) (the_plan : PlanView) (planned : IsPlanOf g q the_plan) (readers : List ℕ)
+        (readers_are : readers ≡ row the_plan.input_readers port) (put : IsRowPut g.up q port x readers old new) where
       pub pass_takes : TakesStep g p part (pass n i port) old new
       pass_takes =
           let s = step_fits g p fit part (pass n i port) at in
           let k = kid_is g fit p i q at.0 at.1 at.2 at.3 s.1 s.5.entry place s.2 s.5.found in
-          let own : IsRowPut g.up q port x (row k.0.input_readers port) old new = subst (λ (ks : List ℕ). IsRowPut g.up q port x ks old new) (readers_are ∙ ap (λ (r : PlanView). row r.input_readers port) (sym (planned s.1 s.2 k.0 k.1))) put in
+          let own : IsRowPut g.up q port x (row k.0.input_readers port) old new = subst (λ (ks : List ℕ). IsRowPut g.up q port x ks old new)
+          (readers_are ∙ ap (λ (r : PlanView). row r.input_readers port) (sym (planned s.1 s.2 k.0 k.1))) put in
           pass_taken g fit p at.0 at.1 at.2 at.3 old new store i q place s.1 s.2 s.5 k.0 k.1 part n port s.0 s.3 x s.4 s.6 s.7 s.8 has own
 
       pub pass_advances : Advances g old new

@@ -39,7 +39,8 @@ module _ (s : Scene) (g : Given) (shows : Shows s g) where
   mark_at_path stale p path k e = ap (λ (o : Option ℕ). flag_of (slice_get (row_for stale o) k)) e
 
   -- where a mark is
-  mark_place : (stale : List (List Bool)) (path : List ℕ) (k : ℕ) (o : Option ℕ) → s.place path ≡ o → flag_of (slice_get (row_for stale o) k) ≡ true → (p : ℕ) × (s.place path ≡ Some p) × (slice_get (row_at stale p) k ≡ Some true)
+  mark_place : (stale : List (List Bool)) (path : List ℕ) (k : ℕ) (o : Option ℕ) → s.place path ≡ o → flag_of (slice_get (row_for stale o) k) ≡ true
+      → (p : ℕ) × (s.place path ≡ Some p) × (slice_get (row_at stale p) k ≡ Some true)
   mark_place stale path k None e m = absurd cc
   mark_place stale path k (Some p) e m = (p, e, flag_on (slice_get (row_at stale p) k) m)
 

@@ -46,7 +46,8 @@ module _ (g : Given) (fit : IsFit g) (p part i b : ℕ) (at : IsStepAt g p part 
 some_number : (entries : List EntryId) (p : ℕ) (id : EntryId) → slice_get entries p ≡ Some id → entry_number entries p ≡ id.0
 some_number entries p id e = ap number_in e
 
-pub call_lower : (g : Given) (fit : IsFit g) (p part : ℕ) (step : Step) (q below : ℕ) (old mid : Store) → p < length g.entries → IsBegun g p part step q below old mid → entry_number g.entries q < entry_number g.entries p
+pub call_lower : (g : Given) (fit : IsFit g) (p part : ℕ) (step : Step) (q below : ℕ) (old mid : Store) → p < length g.entries → IsBegun g p part step q below old mid
+    → entry_number g.entries q < entry_number g.entries p
 call_lower g fit p part step q below old mid within b =
     let i = fit.instances p within in
     let k = fit.instances q b.there in
@@ -82,17 +83,20 @@ module _ (g : Given) (fit : IsFit g) (p part : ℕ) (within : p < length g.entri
 
   -- what is walked from step k on is walked from the start
   abbrev pub Walked : ℕ → Store → Store → Type 0
-  Walked k start now = (s : Scene) (path : List ℕ) (last : Board) → Shows s g → s.place path ≡ Some p → WalksIn s path part (drop k (map step_view steps)) (board s now) last → WalksIn s path part (map step_view steps) (board s start) last
+  Walked k start now = (s : Scene) (path : List ℕ) (last : Board) → Shows s g → s.place path ≡ Some p → WalksIn s path part (drop k (map step_view steps)) (board s now) last
+      → WalksIn s path part (map step_view steps) (board s start) last
 
   pub walks_on : (start old new : Store) (k : ℕ) (d : CodeStep) → k < length steps → Walked k start old → TakesStep g p part (step_view (slice_index_or steps k d)) old new → Walked (k + 1) start new
   walks_on start old new k d l before taken s path last shows here walk =
       let e : k + 1 ≡ suc k = omega arith in
       let rest : WalksIn s path part (drop (suc k) (map step_view steps)) (board s new) last = subst (λ (n : ℕ). WalksIn s path part (drop n (map step_view steps)) (board s new) last) e walk in
-      let own : WalksIn s path part (step_view (slice_index_or steps k d) ∷ drop (suc k) (map step_view steps)) (board s old) last = taken s path (drop (suc k) (map step_view steps)) last shows here rest in
+      let own : WalksIn s path part (step_view (slice_index_or steps k d) ∷ drop (suc k) (map step_view steps)) (board s old) last = taken s path
+      (drop (suc k) (map step_view steps)) last shows here rest in
       before s path last shows here (subst (λ (ss : List Step). WalksIn s path part ss (board s old) last) (sym (drop_step steps k d l)) own)
 
   -- one step more, taken whole
-  pub goes_on : (start old new now : Store) (k : ℕ) (d : CodeStep) → k < length steps → Advances g start old → Walked k start old → Advances g old new → TakesStep g p part (step_view (slice_index_or steps k d)) old new → now ≡ new
+  pub goes_on : (start old new now : Store) (k : ℕ) (d : CodeStep) → k < length steps → Advances g start old → Walked k start old → Advances g old new
+      → TakesStep g p part (step_view (slice_index_or steps k d)) old new → now ≡ new
       → Advances g start now × Walked (k + 1) start now
   goes_on start old new now k d l a w b taken is =
       (subst (λ (st : Store). Advances g start st) (sym is) (advances_then g start old new a b), subst (λ (st : Store). Walked (k + 1) start st) (sym is) (walks_on start old new k d l w taken))
@@ -107,13 +111,15 @@ module _ (g : Given) (fit : IsFit g) (p part : ℕ) (within : p < length g.entri
   walks_end start now k l before s path shows here =
       let i = fit.instances p within in
       let shown = shows.instances p path i.0 i.1 i.2 here i.3 in
-      let own : WalksIn s path part (map step_view steps) (board s start) (board s now) = before s path (board s now) shows here (subst (λ (ss : List Step). WalksIn s path part ss (board s now) (board s now)) (sym (drop_end steps k l)) stop) in
+      let own : WalksIn s path part (map step_view steps) (board s start) (board s now) = before s path (board s now) shows here
+      (subst (λ (ss : List Step). WalksIn s path part ss (board s now) (board s now)) (sym (drop_end steps k l)) stop) in
       subst (λ (ss : List Step). WalksIn s path part ss (board s start) (board s now)) (steps_are i.0 i.1 i.2 i.3 ∙ ap (λ (parts : List Part). steps_at parts part) (sym shown.parts)) own
 
 -- ---- the top
 
 abbrev pub SettledFrom : Given → ℕ → Store → Store → Type 0
-SettledFrom g part start now = (s : Scene) (last : Board) → Shows s g → s.place [] ≡ Some 0 → Settles s.tree s.plans s.tables s.state s.inputs part (board s now) last → Settles s.tree s.plans s.tables s.state s.inputs 0 (board s start) last
+SettledFrom g part start now = (s : Scene) (last : Board) → Shows s g → s.place [] ≡ Some 0 → Settles s.tree s.plans s.tables s.state s.inputs part (board s now) last
+    → Settles s.tree s.plans s.tables s.state s.inputs 0 (board s start) last
 
 pub part_works : (g : Given) (part : ℕ) (old new : Store) → flag_of (slice_get (row_at old.stale 0) part) ≡ true → RunsPart g 0 part old new → SettlesPart g part old new
 part_works g part old new stale walked s last shows top more = works (mark_at_path s g shows old.stale 0 [] part top ∙ stale) (walked s [] shows top) more
@@ -131,7 +137,9 @@ none_past [] j l = refl
 none_past (x ∷ xs) zero l = absurd (omega (arith, l))
 none_past (x ∷ xs) (suc j) l = none_past xs j (omega (arith, l))
 
-pub settles_end : (g : Given) (fit : IsFit g) → 0 < length g.entries → (many part : ℕ) → ((id : EntryId) (form : FormView) (plan : PlanView) → IsInstance g 0 id form plan → many ≡ length plan.parts) → many ≤ part → (start now : Store) → SettledFrom g part start now → SettlesTop g start now
+pub settles_end : (g : Given) (fit : IsFit g) → 0 < length g.entries → (many part : ℕ)
+    → ((id : EntryId) (form : FormView) (plan : PlanView) → IsInstance g 0 id form plan → many ≡ length plan.parts) → many ≤ part → (start now : Store)
+    → SettledFrom g part start now → SettlesTop g start now
 settles_end g fit within many part count l start now before s shows top =
     let i = fit.instances 0 within in
     let shown = shows.instances 0 [] i.0 i.1 i.2 top i.3 in
@@ -189,5 +197,8 @@ module _ (g : Given) (old mid : Store) (new : Store) (values : new.values ≡ mi
   }
 
   pub all_settled : SettlesTop g old mid → SettlesAll g old new
-  all_settled settled s shows top =
-      ((board s mid, settled s shows top, ap (λ (rows : List (List BitVector)). number s rows) (sym values)), λ path k. ap (λ (rows : List (List Bool)). mark s rows path k) stale ∙ mark_off mid.stale (s.place path) k)
+  all_settled settled s shows top = (
+    (board s mid, settled s shows top, ap (λ (rows : List (List BitVector)). number s rows) (sym values)),
+    λ path k. ap (λ (rows : List (List Bool)). mark s rows path k) stale
+        ∙ mark_off mid.stale (s.place path) k,
+  )

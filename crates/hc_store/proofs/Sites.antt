@@ -16,10 +16,12 @@ module _ (g : Given) (p : ℕ) where
   pub one_entry : (id e : EntryId) → slice_get g.entries p ≡ Some id → slice_get g.entries p ≡ Some e → id ≡ e
   one_entry id e a b = one_of id e (sym a ∙ b)
 
-  pub one_form : (id : EntryId) (form : FormView) (plan : PlanView) (e : EntryId) (f : FormView) → IsInstance g p id form plan → slice_get g.entries p ≡ Some e → slice_get g.forms e.0 ≡ Some f → form ≡ f
+  pub one_form : (id : EntryId) (form : FormView) (plan : PlanView) (e : EntryId) (f : FormView) → IsInstance g p id form plan → slice_get g.entries p ≡ Some e
+      → slice_get g.forms e.0 ≡ Some f → form ≡ f
   one_form id form plan e f is a b = one_of form f (sym is.found ∙ ap (λ (i : EntryId). slice_get g.forms i.0) (one_entry id e is.entry a) ∙ b)
 
-  pub one_plan : (id : EntryId) (form : FormView) (plan : PlanView) (e : EntryId) (other : PlanView) → IsInstance g p id form plan → slice_get g.entries p ≡ Some e → slice_get g.plans e.0 ≡ Some other → plan ≡ other
+  pub one_plan : (id : EntryId) (form : FormView) (plan : PlanView) (e : EntryId) (other : PlanView) → IsInstance g p id form plan → slice_get g.entries p ≡ Some e
+      → slice_get g.plans e.0 ≡ Some other → plan ≡ other
   one_plan id form plan e other is a b = one_of plan other (sym is.planned ∙ ap (λ (i : EntryId). slice_get g.plans i.0) (one_entry id e is.entry a) ∙ b)
 
   pub within_entries : (id : EntryId) (form : FormView) (plan : PlanView) → IsInstance g p id form plan → p < length g.entries

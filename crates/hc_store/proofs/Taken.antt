@@ -116,14 +116,16 @@ module _ (g : Given) (fit : IsFit g) (p : ℕ) (id : EntryId) (form : FormView) 
         let own : x.value ≡ number s old.values (at_path path n) = sym (number_at_path s g shows old.values p path n here ∙ ap value_of has) in
         let x_wide : x.width ≡ r.width = width_there n r x e has in
         let widths_q = store.values q kid inner under is_q in
-        let moved = is_put s g shows q (i ∷ path) there_q port x (row under.input_readers port) (row (s.tables (i ∷ path)).input_readers port) (length under.parts) old new (shown_q.input_readers port) (sym f.parts) store
+        let moved = is_put s g shows q (i ∷ path) there_q port x (row under.input_readers port) (row (s.tables (i ∷ path)).input_readers port) (length under.parts) old new
+        (shown_q.input_readers port) (sym f.parts) store
         (there (row_at old.values q) inner.circuit.nodes port input widths_q at_input)
         (λ y a. same_width (row_at old.values q) inner.circuit.nodes port y input widths_q a at_input ∙ wide ∙ sym x_wide) w in
         passes port (input, at, is_input) (subst (λ (v : ℕ). IsPut s.tree s.plans (i ∷ path) port v (row (s.tables (i ∷ path)).input_readers port) (board s old) (board s new)) own moved) walk
 
 -- ---- a part of an instance
 
-module _ (g : Given) (fit : IsFit g) (p : ℕ) (id : EntryId) (form : FormView) (plan : PlanView) (is : IsInstance g p id form plan) (i q : ℕ) (place : (first : ℕ) → slice_get g.first p ≡ Some first → q ≡ first + i) (kid : EntryId) (entry : slice_get form.kids i ≡ Some kid) where
+module _ (g : Given) (fit : IsFit g) (p : ℕ) (id : EntryId) (form : FormView) (plan : PlanView) (is : IsInstance g p id form plan) (i q : ℕ)
+    (place : (first : ℕ) → slice_get g.first p ≡ Some first → q ≡ first + i) (kid : EntryId) (entry : slice_get form.kids i ≡ Some kid) where
   kid_path : (s : Scene) (path : List ℕ) → Shows s g → s.place path ≡ Some p → s.place (i ∷ path) ≡ Some q
   kid_path s path shows here =
       let shown = shows.instances p path id form plan here is in
@@ -133,7 +135,8 @@ module _ (g : Given) (fit : IsFit g) (p : ℕ) (id : EntryId) (form : FormView) 
   pub skip_taken : (part b : ℕ) (old : Store) → flag_of (slice_get (row_at old.stale q) b) ≡ false → TakesStep g p part (run i b) old old
   skip_taken part b old rests s path rest last shows here walk = skips (mark_at_path s g shows old.stale q (i ∷ path) b (kid_path s path shows here) ∙ rests) walk
 
-  pub run_taken : (part b : ℕ) (old mid new : Store) → IsStoreOf g old → flag_of (slice_get (row_at old.stale q) b) ≡ true → WakesTakers g p part old mid → RunsPart g q b mid new → TakesStep g p part (run i b) old new
+  pub run_taken : (part b : ℕ) (old mid new : Store) → IsStoreOf g old → flag_of (slice_get (row_at old.stale q) b) ≡ true → WakesTakers g p part old mid
+      → RunsPart g q b mid new → TakesStep g p part (run i b) old new
   run_taken part b old mid new store stale wakes walked s path rest last shows here walk =
       let shown = shows.instances p path id form plan here is in
       let there_q = kid_path s path shows here in
@@ -142,7 +145,8 @@ module _ (g : Given) (fit : IsFit g) (p : ℕ) (id : EntryId) (form : FormView) 
       let inner = walked s (i ∷ path) shows there_q in
       runs (mark s mid.stale) (mark_at_path s g shows old.stale q (i ∷ path) b there_q ∙ stale)
       (woken s g shows p path here (row plan.takers part) (row (s.tables path).takers part) (length plan.parts) old.stale mid.stale (shown.takers part) (sym f.parts) store.marks store.closed more)
-      (subst (λ (rows : List (List BitVector)). Walks s.tree s.plans s.tables s.state s.inputs (i ∷ path) b (steps_at (s.plans (i ∷ path)) b) (record { vals = number s rows; stale = mark s mid.stale }) (board s new)) wakes.values inner) walk
+      (subst (λ (rows : List (List BitVector)). Walks s.tree s.plans s.tables s.state s.inputs (i ∷ path) b (steps_at (s.plans (i ∷ path)) b)
+      (record { vals = number s rows; stale = mark s mid.stale }) (board s new)) wakes.values inner) walk
 
 -- ---- what stays
 
@@ -153,7 +157,8 @@ pub advances_then : (g : Given) (old mid new : Store) → Advances g old mid →
 advances_then g old mid new a b = record { fit = λ f. b.fit (a.fit f); quiet = λ q e. let m = b.quiet q e in let o = a.quiet q m.0 in (o.0, m.1 ∙ o.1) }
 
 module _ (g : Given) (p n : ℕ) (x : BitVector) (parts : List ℕ) where
-  pub advances_put : (old new : Store) → IsStoreOf g old → p < length g.entries → n < length (row_at old.values p) → ((y : BitVector) → slice_get (row_at old.values p) n ≡ Some y → y.width ≡ x.width) → IsRowPut g.up p n x parts old new → Advances g old new
+  pub advances_put : (old new : Store) → IsStoreOf g old → p < length g.entries → n < length (row_at old.values p)
+      → ((y : BitVector) → slice_get (row_at old.values p) n ≡ Some y → y.width ≡ x.width) → IsRowPut g.up p n x parts old new → Advances g old new
   advances_put old _ store within l width (row_kept e) = advances_none g old
   advances_put old new store within l width (row_put other more values moved) = record {
     fit = λ f. record {
@@ -176,9 +181,14 @@ module _ (g : Given) (p n : ℕ) (x : BitVector) (parts : List ℕ) where
       calm : (q : ℕ) → slice_get new.moved.items q ≡ Some false → (p ≡ q) ⊎ (p ≢ q) → (slice_get old.moved.items q ≡ Some false) × (row_at new.values q ≡ row_at old.values q)
       calm q e (inl same) =
           let m = store.moved in
-          let on : slice_get new.moved.items q ≡ Some true = ap (λ (marks : List Bool). slice_get marks q) moved ∙ ap (slice_get (slice_set old.moved.items p true)) (sym same) ∙ set_here old.moved.items p true (omega (arith, m, within)) in
+          let on : slice_get new.moved.items q ≡ Some true = ap (λ (marks : List Bool). slice_get marks q) moved ∙ ap (slice_get (slice_set old.moved.items p true)) (sym same)
+          ∙ set_here old.moved.items p true (omega (arith, m, within)) in
           absurd (two (sym on ∙ e))
-      calm q e (inr other) = (sym (set_other old.moved.items p q true other) ∙ ap (λ (marks : List Bool). slice_get marks q) (sym moved) ∙ e, ap (λ (rows : List (List BitVector)). row_at rows q) values ∙ row_set_other old.values p q (slice_set (row_at old.values p) n x) other)
+      calm q e (inr other) = (
+        sym (set_other old.moved.items p q true other) ∙ ap (λ (marks : List Bool). slice_get marks q) (sym moved)
+            ∙ e,
+        ap (λ (rows : List (List BitVector)). row_at rows q) values ∙ row_set_other old.values p q (slice_set (row_at old.values p) n x) other,
+      )
 
 module _ (g : Given) (fit : IsFit g) (p : ℕ) (id : EntryId) (form : FormView) (plan : PlanView) (is : IsInstance g p id form plan) where
   pub advances_wakes : (part : ℕ) (old new : Store) → WakesTakers g p part old new → Advances g old new

@@ -109,7 +109,8 @@ module _ (up : List ℕ) (start now : List Bool) (part at : ℕ) (is : AreUp up)
 
   smaller_by : slice_index_or now at false ≡ false → (slice_index_or up at 0 ≡ at) ⊎ (slice_index_or up at 0 ≢ at) → left_of (slice_set now at true) (slice_index_or up at 0) < left_of now at
   smaller_by f (inl same) =
-      let a : off (slice_index_or (slice_set now at true) (slice_index_or up at 0) false) ≡ 0 = ap (λ (k : ℕ). off (slice_index_or (slice_set now at true) k false)) same ∙ ap off (some_index (slice_set now at true) at here) in
+      let a : off (slice_index_or (slice_set now at true) (slice_index_or up at 0) false) ≡ 0 = ap (λ (k : ℕ). off (slice_index_or (slice_set now at true) k false)) same
+      ∙ ap off (some_index (slice_set now at true) at here) in
       let b : off (slice_index_or now at false) ≡ 1 = ap off f in
       omega (arith, a, b, same)
   smaller_by f (inr other) =
@@ -145,7 +146,8 @@ take_suc (x ∷ xs) (suc k) y l (later h) = elim (take_suc xs k y (omega (arith,
 pub take_more : (xs : List ℕ) (k y : ℕ) → k < length xs → Has (take (k + 1) xs) y → Has (take k xs) y ⊎ (y ≡ slice_index_or xs k 0)
 take_more xs k y l h = let e : k + 1 ≡ suc k = omega arith in take_suc xs k y l (subst (λ (n : ℕ). Has (take n xs) y) e h)
 
-module _ (up : List (List ℕ)) (p : ℕ) (parts : List ℕ) (k : ℕ) (old mid new : List (List Bool)) (inside : k < length parts) (a : AreMoreMarked up p (take k parts) old mid) (b : AreMoreMarked up p (slice_index_or parts k 0 ∷ []) mid new) where
+module _ (up : List (List ℕ)) (p : ℕ) (parts : List ℕ) (k : ℕ) (old mid new : List (List Bool)) (inside : k < length parts) (a : AreMoreMarked up p (take k parts) old mid)
+    (b : AreMoreMarked up p (slice_index_or parts k 0 ∷ []) mid new) where
   there_then : (j : ℕ) → Has (take (k + 1) parts) j → j < length (row_at old p) → IsOn (flat new) (number_of old p j)
   there_then j h l = elim (take_more parts k j inside h) [
     | inl before ↦ b.grown (number_of old p j) (a.there j before l)

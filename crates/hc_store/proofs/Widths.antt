@@ -7,7 +7,8 @@ use Rattle.hc_signal.specs.declared.signal.NodeRow.{NodeRow}
 use Rattle.hc_rows.specs.Rows.{row_at}
 use Rattle.hc_values.specs.Rows.{widths, node_widths}
 
-pub same_width : (xs : List BitVector) (rows : List NodeRow) (n : ℕ) (y : BitVector) (row : NodeRow) → widths xs ≡ node_widths rows → slice_get xs n ≡ Some y → slice_get rows n ≡ Some row → y.width ≡ row.width
+pub same_width : (xs : List BitVector) (rows : List NodeRow) (n : ℕ) (y : BitVector) (row : NodeRow) → widths xs ≡ node_widths rows → slice_get xs n ≡ Some y
+    → slice_get rows n ≡ Some row → y.width ≡ row.width
 same_width [] rows n y row e a b = absurd cc
 same_width (x ∷ xs) [] n y row e a b = absurd cc
 same_width (x ∷ xs) (r ∷ rows) zero y row e a b = cc

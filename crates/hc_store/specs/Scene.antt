@@ -78,7 +78,8 @@ WalksIn s path part steps old new = Walks s.tree s.plans s.tables s.state s.inpu
 
 -- The step of the part of instance p was taken, whatever the rows stand for: a walk that goes on from here is one from before.
 abbrev pub TakesStep : Given → ℕ → ℕ → Step → (old new : Store) → Type 0
-TakesStep g p part step old new = (s : Scene) (path : List ℕ) (rest : List Step) (last : Board) → Shows s g → s.place path ≡ Some p → WalksIn s path part rest (board s new) last → WalksIn s path part (step ∷ rest) (board s old) last
+TakesStep g p part step old new = (s : Scene) (path : List ℕ) (rest : List Step) (last : Board) → Shows s g → s.place path ≡ Some p → WalksIn s path part rest (board s new) last
+    → WalksIn s path part (step ∷ rest) (board s old) last
 
 -- the part of instance p was run
 abbrev pub RunsPart : Given → ℕ → ℕ → (old new : Store) → Type 0

@@ -41,12 +41,15 @@ trees_of entries k = unfolding_of entries (entry k)
 
 -- each call of a hierarchy stands for one of its design, and each of those has one that stands for it
 abbrev pub StandForCalls : Type 0
-StandForCalls = (entries : List FormView) (hier : Hier) (e : Elaborated) (view : CallView) → IsHierarchyFor entries hier e → Has (walk hier) view → (c : ElaboratedCall) × Has e.calls c × IsCallFor entries view c
+StandForCalls = (entries : List FormView) (hier : Hier) (e : Elaborated) (view : CallView) → IsHierarchyFor entries hier e → Has (walk hier) view → (c : ElaboratedCall)
+    × Has e.calls c × IsCallFor entries view c
 
 abbrev pub HaveCalls : Type 0
-HaveCalls = (entries : List FormView) (hier : Hier) (e : Elaborated) (c : ElaboratedCall) → IsHierarchyFor entries hier e → Has e.calls c → (view : CallView) × Has (walk hier) view × IsCallFor entries view c
+HaveCalls = (entries : List FormView) (hier : Hier) (e : Elaborated) (c : ElaboratedCall) → IsHierarchyFor entries hier e → Has e.calls c → (view : CallView) × Has (walk hier) view
+    × IsCallFor entries view c
 
-module _ (stand : StandForCalls) (stood_for : HaveCalls) (h : History) (hier : Hier) (of : Elaborated) (legal : IsLegal h) (for : IsHierarchyFor h.entries hier of) (are_called : AreCalled h.entries hier) where
+module _ (stand : StandForCalls) (stood_for : HaveCalls) (h : History) (hier : Hier) (of : Elaborated) (legal : IsLegal h) (for : IsHierarchyFor h.entries hier of)
+    (are_called : AreCalled h.entries hier) where
   abbrev marks : List Bool
   marks = replicate (length h.entries) true
 

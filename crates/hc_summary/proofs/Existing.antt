@@ -115,7 +115,8 @@ reached_among e called t (path, reached, is) =
 counts_of : Elaborated → List CycleRow → ℕ → ℕ → Counts
 counts_of e rows entries modules = record { instances = e.sums.instances; entries = entries; modules = modules; weight = e.sums.weight; words = e.sums.words; cycles = length rows }
 
-are_counts : (e : Elaborated) (rows : List CycleRow) (entries modules : ℕ) → IsNumberOfKinds (IsCallTree e.calls) entries → IsNumberOfKinds (IsReachedTree e.tree) modules → AreCountsOf e rows (counts_of e rows entries modules)
+are_counts : (e : Elaborated) (rows : List CycleRow) (entries modules : ℕ) → IsNumberOfKinds (IsCallTree e.calls) entries → IsNumberOfKinds (IsReachedTree e.tree) modules
+    → AreCountsOf e rows (counts_of e rows entries modules)
 unfolding counts_of
 are_counts e rows entries modules a b = record { instances = refl; entries = a; modules = b; weight = refl; words = refl; cycles = refl }
 

@@ -61,7 +61,8 @@ module _ (P : Tree → Type 0) (trees : ℕ → Tree) (marks : List Bool) where
     alone : (a : AreKinds P after marks) (t : Tree) → Has a.kinds t → Same own.0 t → ⊥
     alone a t h same =
         let s = a.some t h in
-        let e : 0 ≡ suc s.1.0 = once zero (suc s.1.0) refl s.1.1 (same-trans (trees 0) own.0 (trees (suc s.1.0)) (same-sym own.0 (trees 0) own.2) (same-trans own.0 t (trees (suc s.1.0)) same s.1.2)) in
+        let e : 0 ≡ suc s.1.0 = once zero (suc s.1.0) refl s.1.1 (same-trans (trees 0) own.0 (trees (suc s.1.0)) (same-sym own.0 (trees 0) own.2)
+        (same-trans own.0 t (trees (suc s.1.0)) same s.1.2)) in
         omega (arith, e)
 
     taken : AreKinds P after marks → AreKinds P trees (true ∷ marks)
@@ -93,12 +94,15 @@ module _ (P : Tree → Type 0) (trees : ℕ → Tree) (marks : List Bool) where
 
 kinds_of : (P : Tree → Type 0) (marks : List Bool) (trees : ℕ → Tree) → HaveTrees P trees marks → AreOnce trees marks → AreKinds P trees marks
 kinds_of P [] trees have once = nothing P trees
-kinds_of P (false ∷ marks) trees have once = passed P trees marks (kinds_of P marks (λ k. trees (suc k)) (λ k e. have (suc k) e) (λ i j x y same. (let e : suc i ≡ suc j = once (suc i) (suc j) x y same in omega (arith, e))))
-kinds_of P (true ∷ marks) trees have once = taken P trees marks (have zero refl) once (kinds_of P marks (λ k. trees (suc k)) (λ k e. have (suc k) e) (λ i j x y same. (let e : suc i ≡ suc j = once (suc i) (suc j) x y same in omega (arith, e))))
+kinds_of P (false ∷ marks) trees have once = passed P trees marks
+    (kinds_of P marks (λ k. trees (suc k)) (λ k e. have (suc k) e) (λ i j x y same. (let e : suc i ≡ suc j = once (suc i) (suc j) x y same in omega (arith, e))))
+kinds_of P (true ∷ marks) trees have once = taken P trees marks (have zero refl) once
+    (kinds_of P marks (λ k. trees (suc k)) (λ k e. have (suc k) e) (λ i j x y same. (let e : suc i ≡ suc j = once (suc i) (suc j) x y same in omega (arith, e))))
 
 -- Where each marked place has a tree that P holds of, no two marked places have the same tree, and each tree that P holds of is
 -- that of a marked place, there are as many kinds as marks.
-pub marks_number : (P : Tree → Type 0) (marks : List Bool) (trees : ℕ → Tree) → HaveTrees P trees marks → AreOnce trees marks → ((t : Tree) → P t → (k : ℕ) × IsOn marks k × Same (trees k) t) → IsNumberOfKinds P (marked marks)
+pub marks_number : (P : Tree → Type 0) (marks : List Bool) (trees : ℕ → Tree) → HaveTrees P trees marks → AreOnce trees marks
+    → ((t : Tree) → P t → (k : ℕ) × IsOn marks k × Same (trees k) t) → IsNumberOfKinds P (marked marks)
 marks_number P marks trees have once each =
     let a = kinds_of P marks trees have once in record {
       kinds = a.kinds;

@@ -19,7 +19,8 @@ same_counts c d i e m w o y =
 
 counts_single : (of : Elaborated) (rows : List CycleRow) (c d : Counts) → AreCountsOf of rows c → AreCountsOf of rows d → c ≡ d
 counts_single of rows c d a b =
-    same_counts c d (a.instances ∙ sym b.instances) (kinds_single (IsCallTree of.calls) c.entries d.entries a.entries b.entries) (kinds_single (IsReachedTree of.tree) c.modules d.modules a.modules b.modules)
+    same_counts c d (a.instances ∙ sym b.instances) (kinds_single (IsCallTree of.calls) c.entries d.entries a.entries b.entries)
+    (kinds_single (IsReachedTree of.tree) c.modules d.modules a.modules b.modules)
     (a.weight ∙ sym b.weight) (a.words ∙ sym b.words) (a.cycles ∙ sym b.cycles)
 
 pub summary_single : (e : Elaborated) (rows : List CycleRow) (a b : List ℕ) → IsSummary e rows a → IsSummary e rows b → a ≡ b

@@ -25,4 +25,5 @@ six_lines k x a b c d e f i w o none instances weight words one two three four f
     (one ∙ ap₂ (λ t n. with_line t (codes "instances ") n) none instances)))
     weight)
     words)
-    ∙ six_parts (line (codes "instances ") k.instances) (line (codes "entries ") k.entries) (line (codes "modules ") k.modules) (line (codes "weight ") k.weight) (line (codes "words ") k.words) (line (codes "cycles ") k.cycles)
+    ∙ six_parts (line (codes "instances ") k.instances) (line (codes "entries ") k.entries) (line (codes "modules ") k.modules) (line (codes "weight ") k.weight)
+    (line (codes "words ") k.words) (line (codes "cycles ") k.cycles)

@@ -28,7 +28,8 @@ pub record AreTakenFrom (h : History) (hier : Hier) (marks : List Bool) (steps :
   pub words : c.words ≡ (hier_view hier).own.words
   pub cycles : c.cycles ≡ sum_by cycles_of steps
 
-pub summed : StandForCalls → HaveCalls → TopIsThere → UsedAreCalled → (h : History) (hier : Hier) (marks : List Bool) (steps : List Step) (c : Counts) (text : List ℕ) → IsLegal h → AreUses h.entries (hier_view hier).own.entry marks → AreTakenFrom h hier marks steps c → text ≡ summary_text c
+pub summed : StandForCalls → HaveCalls → TopIsThere → UsedAreCalled → (h : History) (hier : Hier) (marks : List Bool) (steps : List Step) (c : Counts) (text : List ℕ)
+    → IsLegal h → AreUses h.entries (hier_view hier).own.entry marks → AreTakenFrom h hier marks steps c → text ≡ summary_text c
     → (of : Elaborated) (rows : List CycleRow) → IsHierarchyFor h.entries hier of → AreCalled h.entries hier → IsRun of.tree steps rows → IsSummary of rows text
 summed stand stood_for top_there used_called h hier marks steps c text legal uses from is of rows for called run = (
   c,

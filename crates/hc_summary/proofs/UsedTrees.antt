@@ -28,9 +28,11 @@ abbrev pub TopIsThere : Type 0
 TopIsThere = (entries : List FormView) (hier : Hier) → IsElaboration entries hier → (hier_view hier).own.entry.0 < length entries
 
 abbrev pub UsedAreCalled : Type 0
-UsedAreCalled = (entries : List FormView) (hier : Hier) (id : EntryId) → IsElaboration entries hier → Uses entries (hier_view hier).own.entry id → (call : CallView) × Has (walk hier) call × (call.own.entry ≡ id)
+UsedAreCalled = (entries : List FormView) (hier : Hier) (id : EntryId) → IsElaboration entries hier → Uses entries (hier_view hier).own.entry id → (call : CallView)
+    × Has (walk hier) call × (call.own.entry ≡ id)
 
-module _ (top_there : TopIsThere) (used_called : UsedAreCalled) (h : History) (hier : Hier) (of : Elaborated) (legal : IsLegal h) (for : IsHierarchyFor h.entries hier of) (marks : List Bool) (uses : AreUses h.entries (hier_view hier).own.entry marks) where
+module _ (top_there : TopIsThere) (used_called : UsedAreCalled) (h : History) (hier : Hier) (of : Elaborated) (legal : IsLegal h) (for : IsHierarchyFor h.entries hier of)
+    (marks : List Bool) (uses : AreUses h.entries (hier_view hier).own.entry marks) where
   abbrev top : EntryId
   top = (hier_view hier).own.entry
 

@@ -36,7 +36,8 @@ flat_at t (down port r y o) = step_reached t (occurrences.down port y o) (flat_a
 flat_at t (up port r y o) = step_reached t (occurrences.up port y o) (flat_at t r)
 
 -- An instance output has an inner wire of its width, and an inner input a connection.
-width_at_place : (g : Graph) (ids : List NodeId) (ports : List Port) (k : ℕ) (p : Port) → HaveWidths g ids (map (λ (p : Port). p.width) ports) → slice_get ports k ≡ Some p → (id : NodeId) × (slice_get ids k ≡ Some id) × HasWidth g id p.width
+width_at_place : (g : Graph) (ids : List NodeId) (ports : List Port) (k : ℕ) (p : Port) → HaveWidths g ids (map (λ (p : Port). p.width) ports)
+    → slice_get ports k ≡ Some p → (id : NodeId) × (slice_get ids k ≡ Some id) × HasWidth g id p.width
 width_at_place g ids [] k p h e = cc
 width_at_place g [] (q ∷ ports) k p h e = absurd h
 width_at_place g (id ∷ ids) (q ∷ ports) zero p h e = (id, refl, subst (λ z. HasWidth g id z.width) (ap (λ o. unwrap_or o q) e) h.0)
@@ -45,10 +46,12 @@ width_at_place g (id ∷ ids) (q ∷ ports) (suc k) p h e = width_at_place g ids
 abbrev Wired : Graph → Option NodeId → ℕ → Type 0
 Wired g o w = (id : NodeId) × (o ≡ Some id) × HasWidth g id w
 
-wire_below : (s : Tree) → IsWhole s → (n i port : ℕ) (row : NodeRow) → slice_get (graph s).nodes n ≡ Some row → row.node ≡ InstOut (record { 0 = i }) port → Wired (graph (kid s i)) (slice_get (graph (kid s i)).outputs port) row.width
+wire_below : (s : Tree) → IsWhole s → (n i port : ℕ) (row : NodeRow) → slice_get (graph s).nodes n ≡ Some row → row.node ≡ InstOut (record { 0 = i }) port
+    → Wired (graph (kid s i)) (slice_get (graph (kid s i)).outputs port) row.width
 wire_below none w n i port row e q = cc
 wire_below (tree g kids) w n i port row e q =
-    let l : (it : Instance) × (p : Port) × (slice_get g.instances i ≡ Some it) × (slice_get it.ports.outputs port ≡ Some p) × (p.width ≡ row.width) = subst (IsLawfulNode g row.width) q (w.0.nodes n row e).1 in
+    let l : (it : Instance) × (p : Port) × (slice_get g.instances i ≡ Some it) × (slice_get it.ports.outputs port ≡ Some p)
+    × (p.width ≡ row.width) = subst (IsLawfulNode g row.width) q (w.0.nodes n row e).1 in
     let k : ((graph (kids i)).ports ≡ l.0.ports) × IsWhole (kids i) = w.1 i l.0 l.2 in
     let o : slice_get (graph (kids i)).ports.outputs port ≡ Some l.1 = ap (λ z. slice_get z.outputs port) k.0 ∙ l.3 in
     lawful_wire (kids i) k.1 port l.1 row.width o l.4
@@ -57,16 +60,19 @@ wire_below (tree g kids) w n i port row e q =
     lawful_wire none w port p x o f = cc
     lawful_wire (tree h others) w port p x o f = subst (λ z. Wired h (slice_get h.outputs port) z) f (width_at_place h h.outputs h.ports.outputs port p w.0.outputs o)
 
-wire_above : (s : Tree) → IsWhole s → (i : ℕ) → Reached (graph s) (inst i) → (n port : ℕ) (row : NodeRow) → slice_get (graph (kid s i)).nodes n ≡ Some row → row.node ≡ Input port → Wired (graph s) (connection (graph s) i port) row.width
+wire_above : (s : Tree) → IsWhole s → (i : ℕ) → Reached (graph s) (inst i) → (n port : ℕ) (row : NodeRow) → slice_get (graph (kid s i)).nodes n ≡ Some row
+    → row.node ≡ Input port → Wired (graph s) (connection (graph s) i port) row.width
 wire_above none w i r n port row e q = cc
 wire_above (tree g kids) w i r n port row e q =
     let x : HasRow g (inst i) = row_in (tree g kids) w r in
     let k : ((graph (kids i)).ports ≡ x.0.ports) × IsWhole (kids i) = w.1 i x.0 x.1 in
     let l : (p : Port) × (slice_get (graph (kids i)).ports.inputs port ≡ Some p) × (p.width ≡ row.width) = lawful_input (kids i) k.1 n port row e q in
-    let c : Wired g (slice_get x.0.conns port) l.0.width = width_at_place g x.0.conns x.0.ports.inputs port l.0 (w.0.instances x.0 (has_slice g.instances i x.0 x.1)).conns (ap (λ z. slice_get z.inputs port) (sym k.0) ∙ l.1) in
+    let c : Wired g (slice_get x.0.conns port) l.0.width = width_at_place g x.0.conns x.0.ports.inputs port l.0 (w.0.instances x.0 (has_slice g.instances i x.0 x.1)).conns
+    (ap (λ z. slice_get z.inputs port) (sym k.0) ∙ l.1) in
     subst (λ z. Wired g (connection g i port) z) l.2 (c.0, ap (λ o. connection_of o port) x.1 ∙ c.1, c.2)
   where
-    lawful_input : (s : Tree) → IsWhole s → (n port : ℕ) (row : NodeRow) → slice_get (graph s).nodes n ≡ Some row → row.node ≡ Input port → (p : Port) × (slice_get (graph s).ports.inputs port ≡ Some p) × (p.width ≡ row.width)
+    lawful_input : (s : Tree) → IsWhole s → (n port : ℕ) (row : NodeRow) → slice_get (graph s).nodes n ≡ Some row → row.node ≡ Input port
+        → (p : Port) × (slice_get (graph s).ports.inputs port ≡ Some p) × (p.width ≡ row.width)
     lawful_input none w n port row e q = cc
     lawful_input (tree h others) w n port row e q = subst (IsLawfulNode h row.width) q (w.0.nodes n row e).1
 
@@ -100,7 +106,8 @@ module _ (t : Tree) (g : Graph) (fl : IsFlat t g) where
   abbrev image : List ℕ → Vertex → Vertex
   image p x = renumber (within fl.at p) x
 
-  flat_here : (p : List ℕ) (k n : ℕ) → FlatReached t p (node k) → (o : Option NodeRow) → slice_get (graph_at t p).nodes k ≡ o → Has (fanin_of_row o) (node n) ⊎ ((m : ℕ) × Has (fanin_of_row o) (mem m)) → IsFlatNode t (record { path = p; node = k })
+  flat_here : (p : List ℕ) (k n : ℕ) → FlatReached t p (node k) → (o : Option NodeRow) → slice_get (graph_at t p).nodes k ≡ o
+      → Has (fanin_of_row o) (node n) ⊎ ((m : ℕ) × Has (fanin_of_row o) (mem m)) → IsFlatNode t (record { path = p; node = k })
   flat_here p k n r None e (inl h) = elim h [ ]
   flat_here p k n r None e (inr h) = absurd (none_has h.0 h.1)
     where
@@ -124,16 +131,21 @@ module _ (t : Tree) (g : Graph) (fl : IsFlat t g) where
       flat_mem (Op kind args) p m h = refl
 
   -- the fan-in of an image
-  parts_imaged : (p : List ℕ) (x : Vertex) → FlatReached t p x → ((n : ℕ) × Has (fanin (graph_at t p) x) (node n)) ⊎ ((m : ℕ) × Has (fanin (graph_at t p) x) (mem m)) → fanin g (image p x) ≡ map (image p) (fanin (graph_at t p) x)
-  parts_imaged p (node k) r (inl h) = ap fanin_of_row (fl.nodes (record { path = p; node = k }) r (flat_here p k h.0 r (slice_get (graph_at t p).nodes k) refl (inl h.1))) ∙ row_parts_by (within fl.at p) (slice_get (graph_at t p).nodes k)
-  parts_imaged p (node k) r (inr h) = ap fanin_of_row (fl.nodes (record { path = p; node = k }) r (flat_here p k 0 r (slice_get (graph_at t p).nodes k) refl (inr h))) ∙ row_parts_by (within fl.at p) (slice_get (graph_at t p).nodes k)
+  parts_imaged : (p : List ℕ) (x : Vertex) → FlatReached t p x → ((n : ℕ) × Has (fanin (graph_at t p) x) (node n)) ⊎ ((m : ℕ) × Has (fanin (graph_at t p) x) (mem m))
+      → fanin g (image p x) ≡ map (image p) (fanin (graph_at t p) x)
+  parts_imaged p (node k) r (inl h) = ap fanin_of_row (fl.nodes (record { path = p; node = k }) r (flat_here p k h.0 r (slice_get (graph_at t p).nodes k) refl (inl h.1)))
+      ∙ row_parts_by (within fl.at p) (slice_get (graph_at t p).nodes k)
+  parts_imaged p (node k) r (inr h) = ap fanin_of_row (fl.nodes (record { path = p; node = k }) r (flat_here p k 0 r (slice_get (graph_at t p).nodes k) refl (inr h)))
+      ∙ row_parts_by (within fl.at p) (slice_get (graph_at t p).nodes k)
   parts_imaged p (mem k) r h = ap fanin_of_memory (fl.memories p k r) ∙ memory_parts_by (within fl.at p) (slice_get (graph_at t p).memories k)
   parts_imaged p (inst k) r h = absurd (no_inst t p k (inst k) r refl)
 
   pub flat_goes : {p : List ℕ} {x : Vertex} → FlatReached t p x → Reached g (image p x)
   flat_goes (output {p = x} c) = graphs.output (image [] x) (subst (λ l. Has l (image [] x)) (sym (ap nodes_of fl.outputs ∙ nodes_of_by (within fl.at []) (graph t).outputs)) (has_map (image []) c))
-  flat_goes (to_node {path = p} {p = x} {n = n} r c) = further (image p x) (node (fl.at.node p n)) (flat_goes r) (subst (λ l. Has l (node (fl.at.node p n))) (sym (parts_imaged p x r (inl (n, c)))) (has_map (image p) c))
-  flat_goes (to_mem {path = p} {p = x} {m = m} r c) = further (image p x) (mem (fl.at.mem p m)) (flat_goes r) (subst (λ l. Has l (mem (fl.at.mem p m))) (sym (parts_imaged p x r (inr (m, c)))) (has_map (image p) c))
+  flat_goes (to_node {path = p} {p = x} {n = n} r c) = further (image p x) (node (fl.at.node p n)) (flat_goes r)
+      (subst (λ l. Has l (node (fl.at.node p n))) (sym (parts_imaged p x r (inl (n, c)))) (has_map (image p) c))
+  flat_goes (to_mem {path = p} {p = x} {m = m} r c) = further (image p x) (mem (fl.at.mem p m)) (flat_goes r)
+      (subst (λ l. Has l (mem (fl.at.mem p m))) (sym (parts_imaged p x r (inr (m, c)))) (has_map (image p) c))
   flat_goes (down {path = p} {n = n} {i = i} {m = m} port r y o) = subst (λ k. Reached g (node k)) (fl.down p n i port m r y o) (flat_goes r)
   flat_goes (up {path = p} {n = n} {i = i} {m = m} port r y o) = subst (λ k. Reached g (node k)) (fl.up p n i port m r y o) (flat_goes r)
 
@@ -149,7 +161,8 @@ module _ (t : Tree) (g : Graph) (fl : IsFlat t g) where
     width : there.width ≡ row.width
     passes : (st : State) (ins : List ℕ) (u : Occurrence → ℕ) → value t st ins u p n row.node ≡ u (record { path = to; node = num })
 
-  view_output : IsWhole t → (p : List ℕ) (n i port : ℕ) (row : NodeRow) → FlatReached t p (node n) → slice_get (graph_at t p).nodes n ≡ Some row → row.node ≡ InstOut (record { 0 = i }) port → Passing p n row
+  view_output : IsWhole t → (p : List ℕ) (n i port : ℕ) (row : NodeRow) → FlatReached t p (node n) → slice_get (graph_at t p).nodes n ≡ Some row
+      → row.node ≡ InstOut (record { 0 = i }) port → Passing p n row
   view_output w p n i port row r e q =
       let b : Wired (graph_at t (i ∷ p)) (slice_get (graph_at t (i ∷ p)).outputs port) row.width = wire_below (tree_at t p) (whole_at t w p (flat_at t r).0) n i port row e q in
       record {
@@ -164,7 +177,8 @@ module _ (t : Tree) (g : Graph) (fl : IsFlat t g) where
         passes = λ st ins u. ap (value t st ins u p n) q ∙ ap (optional_value u (i ∷ p)) b.1;
       }
 
-  view_input : IsWhole t → (i : ℕ) (p : List ℕ) (n port : ℕ) (row : NodeRow) → FlatReached t (i ∷ p) (node n) → slice_get (graph_at t (i ∷ p)).nodes n ≡ Some row → row.node ≡ Input port → Passing (i ∷ p) n row
+  view_input : IsWhole t → (i : ℕ) (p : List ℕ) (n port : ℕ) (row : NodeRow) → FlatReached t (i ∷ p) (node n) → slice_get (graph_at t (i ∷ p)).nodes n ≡ Some row
+      → row.node ≡ Input port → Passing (i ∷ p) n row
   view_input w i p n port row r e q =
       let b : Wired (graph_at t p) (connection (graph_at t p) i port) row.width = wire_above (tree_at t p) (whole_at t w p (flat_at t r).0.0) i (flat_at t r).0.1 n port row e q in
       record {
@@ -179,7 +193,8 @@ module _ (t : Tree) (g : Graph) (fl : IsFlat t g) where
         passes = λ st ins u. ap (value t st ins u (i ∷ p) n) q ∙ ap (optional_value u p) b.1;
       }
 
-  view : IsWhole t → (p : List ℕ) (n : ℕ) (row : NodeRow) (x : Node) → FlatReached t p (node n) → slice_get (graph_at t p).nodes n ≡ Some row → row.node ≡ x → Passing p n row ⊎ (is_port_alias p x ≡ false)
+  view : IsWhole t → (p : List ℕ) (n : ℕ) (row : NodeRow) (x : Node) → FlatReached t p (node n) → slice_get (graph_at t p).nodes n ≡ Some row → row.node ≡ x
+      → Passing p n row ⊎ (is_port_alias p x ≡ false)
   view w p n row (InstOut i port) r e q = inl (view_output w p n i.0 port row r e q)
   view w [] n row (Input port) r e q = inr refl
   view w (i ∷ p) n row (Input port) r e q = inl (view_input w i p n port row r e q)
@@ -194,7 +209,8 @@ module _ (t : Tree) (g : Graph) (fl : IsFlat t g) where
   view w p n row (Read m addr) r e q = inr refl
   view w p n row (Op kind args) r e q = inr refl
 
-  pub flat_row : (p : List ℕ) (n : ℕ) (row : NodeRow) → FlatReached t p (node n) → slice_get (graph_at t p).nodes n ≡ Some row → is_port_alias p row.node ≡ false → slice_get g.nodes (fl.at.node p n) ≡ Some (row_by (within fl.at p) row)
+  pub flat_row : (p : List ℕ) (n : ℕ) (row : NodeRow) → FlatReached t p (node n) → slice_get (graph_at t p).nodes n ≡ Some row → is_port_alias p row.node ≡ false
+      → slice_get g.nodes (fl.at.node p n) ≡ Some (row_by (within fl.at p) row)
   flat_row p n row r e f = fl.nodes (record { path = p; node = n }) r (flat_at t r, (row, e, f)) ∙ ap (option_map (row_by (within fl.at p))) e
 
   module _ (whole : IsWhole t) (free : ¬ HasCombLoop t) where
@@ -203,13 +219,16 @@ module _ (t : Tree) (g : Graph) (fl : IsFlat t g) where
     width_flat (suc f) p n d r =
         let x : HasRow (graph_at t p) (node n) = row_in (tree_at t p) (whole_at t whole p d.2.0) d.2.1 in
         elim (view whole p n x.0 x.0.node r x.1 refl) [
-          | inl v ↦ ap width_of x.1 ∙ sym v.width ∙ sym (ap width_of v.found) ∙ width_flat f v.to v.num (deep_next t whole free f p n v.to v.num d v.needs) v.reached ∙ ap (λ k. width_of (slice_get g.nodes k)) (sym v.same)
+          | inl v ↦ ap width_of x.1 ∙ sym v.width ∙ sym (ap width_of v.found) ∙ width_flat f v.to v.num (deep_next t whole free f p n v.to v.num d v.needs) v.reached
+              ∙ ap (λ k. width_of (slice_get g.nodes k)) (sym v.same)
           | inr b ↦ ap width_of x.1 ∙ sym (ap width_of (flat_row p n x.0 r x.1 b))
         ]
 
 -- States that give the registers and memories that are reached the same numbers and words.
 pub record FlatAgree (t : Tree) (g : Graph) (fl : IsFlat t g) (st su : State) : Type 0 where
-  pub registers : (p : List ℕ) (n : ℕ) (next : NodeId) (enable : Option NodeId) (clear : Option (NodeId × BitVector)) (init : BitVector) → FlatReached t p (node n) → NodeIs t p n (Reg next enable clear init) → look_up 0 st.registers (record { path = p; node = n }) ≡ look_up 0 su.registers (record { path = []; node = fl.at.node p n })
+  pub registers : (p : List ℕ) (n : ℕ) (next : NodeId) (enable : Option NodeId) (clear : Option (NodeId × BitVector)) (init : BitVector) → FlatReached t p (node n)
+      → NodeIs t p n (Reg next enable clear init)
+      → look_up 0 st.registers (record { path = p; node = n }) ≡ look_up 0 su.registers (record { path = []; node = fl.at.node p n })
   pub memories : (p : List ℕ) (m : ℕ) → FlatReached t p (mem m) → look_up [] st.memories (record { path = p; node = m }) ≡ look_up [] su.memories (record { path = []; node = fl.at.mem p m })
 
 module _ (t : Tree) (g : Graph) (fl : IsFlat t g) (whole : IsWhole t) (free : ¬ HasCombLoop t) (st su : State) (same : FlatAgree t g fl st su) (ins : List ℕ) (v w : Occurrence → ℕ) where
@@ -246,7 +265,8 @@ module _ (t : Tree) (g : Graph) (fl : IsFlat t g) (whole : IsWhole t) (free : ¬
   flat_node_value p n (Const c) row e q r f ih = refl
   flat_node_value p n (Two op b c) row e q r f ih = ap₂ (λ i j. (binary op i j).value) (vector p n (Two op b c) row e q r ih b first) (vector p n (Two op b c) row e q r ih c (later first))
   flat_node_value p n (Not b) row e q r f ih = ap (λ i. (not_ i).value) (vector p n (Not b) row e q r ih b first)
-  flat_node_value p n (Mux sel cases) row e q r f ih = ap₂ (λ i j. (mux i j).value) (vector p n (Mux sel cases) row e q r ih sel first) (vectors p n (Mux sel cases) row e q r ih cases (λ i h. later h))
+  flat_node_value p n (Mux sel cases) row e q r f ih = ap₂ (λ i j. (mux i j).value) (vector p n (Mux sel cases) row e q r ih sel first)
+      (vectors p n (Mux sel cases) row e q r ih cases (λ i h. later h))
   flat_node_value p n (Cat fanin) row e q r f ih = ap (λ i. (cat_all i).value) (vectors p n (Cat fanin) row e q r ih fanin (λ i h. h))
   flat_node_value p n (Select b hi lo) row e q r f ih = ap (λ i. (select i hi lo).value) (vector p n (Select b hi lo) row e q r ih b first)
   flat_node_value p n (Reg next enable clear init) row e q r f ih = same.registers p n next enable clear init r (row, e, q)

@@ -20,7 +20,8 @@ pub run_once : HavePartners → (t : Tree) → IsWhole t → ¬ HasCombLoop t �
 run_once laws t whole free steps rows others (state, initial, run) (other, initial_too, run_too) =
     trace_once t whole free initial_too.whole (runs_of_same laws t t (same-refl t) whole whole free free state other initial initial_too (initial_inputs t) 0 steps rows run) run_too
 
-pub listing_of_run : HavePartners → (outputs : List Port) (sim : Simulation) (steps : List Step) (rows : List CycleRow) (old new : Option (List ℕ)) → IsSimulation sim → IsAtStart sim → IsRun sim.tree steps rows → IsListed outputs sim steps old new → Appends old new (listing outputs rows)
+pub listing_of_run : HavePartners → (outputs : List Port) (sim : Simulation) (steps : List Step) (rows : List CycleRow) (old new : Option (List ℕ)) → IsSimulation sim
+    → IsAtStart sim → IsRun sim.tree steps rows → IsListed outputs sim steps old new → Appends old new (listing outputs rows)
 listing_of_run laws outputs sim steps rows old new is begun run listed =
     let here : IsRun sim.tree steps listed.rows = (sim.state, begun.state, subst (λ (i : List ℕ). Trace sim.tree sim.state i 0 steps listed.rows) begun.inputs listed.trace) in
     subst (λ (l : List CycleRow). Appends old new (listing outputs l)) (run_once laws sim.tree is.whole is.no_loop steps listed.rows rows here run) listed.taken

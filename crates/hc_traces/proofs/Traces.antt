@@ -43,13 +43,16 @@ module _ (t : Tree) (v w : Occurrence → ℕ) (a : AgreeAtReached t v w) where
   cleared_agrees p None x y e h = e
   cleared_agrees p (Some c) x y e h = ap₂ (λ k z. if k == 1 then c.1.value else z) (h c refl) e
 
-  next_agrees : (p : List ℕ) (n : ℕ) (row : NodeRow) (x : Node) (old : ℕ) → IsReachedPath t p → Reached (graph_at t p) (node n) → slice_get (graph_at t p).nodes n ≡ Some row → row.node ≡ x → next_value v p x old ≡ next_value w p x old
+  next_agrees : (p : List ℕ) (n : ℕ) (row : NodeRow) (x : Node) (old : ℕ) → IsReachedPath t p → Reached (graph_at t p) (node n)
+      → slice_get (graph_at t p).nodes n ≡ Some row → row.node ≡ x → next_value v p x old ≡ next_value w p x old
   next_agrees p n row (Reg next enable clear init) old r c e q =
       cleared_agrees p clear _ _
       (ap₂ (λ b k. if b then k else old)
-      (enabled_agrees p enable (λ id o. at_id p id r (reached_fanin (graph_at t p) n (Reg next enable clear init) (node id.0) row e q c (later (has_left (clear_node clear) (subst (λ z. Has (optional_node z) (node id.0)) (sym o) first))))))
+      (enabled_agrees p enable (λ id o. at_id p id r (reached_fanin (graph_at t p) n (Reg next enable clear init) (node id.0) row e q c
+      (later (has_left (clear_node clear) (subst (λ z. Has (optional_node z) (node id.0)) (sym o) first))))))
       (at_id p next r (reached_fanin (graph_at t p) n (Reg next enable clear init) (node next.0) row e q c first)))
-      (λ d o. at_id p d.0 r (reached_fanin (graph_at t p) n (Reg next enable clear init) (node d.0.0) row e q c (later (has_right (optional_node enable) (subst (λ z. Has (clear_node z) (node d.0.0)) (sym o) first)))))
+      (λ d o. at_id p d.0 r (reached_fanin (graph_at t p) n (Reg next enable clear init) (node d.0.0) row e q c
+      (later (has_right (optional_node enable) (subst (λ z. Has (clear_node z) (node d.0.0)) (sym o) first)))))
   next_agrees p n row (Input port) old r c e q = refl
   next_agrees p n row (Wire driver) old r c e q = refl
   next_agrees p n row (Const value) old r c e q = refl
@@ -71,7 +74,8 @@ module _ (t : Tree) (v w : Occurrence → ℕ) (a : AgreeAtReached t v w) where
       by u None = e.1
       by u (Some row) = next_value u e.0.path row.node e.1
 
-  written_agrees : (p : List ℕ) (ws : List WritePort) (place old : ℕ) → IsReachedPath t p → ((q : Vertex) → Has (fanin_of_writes ws) q → Reached (graph_at t p) q) → word_after v p ws place old ≡ word_after w p ws place old
+  written_agrees : (p : List ℕ) (ws : List WritePort) (place old : ℕ) → IsReachedPath t p → ((q : Vertex) → Has (fanin_of_writes ws) q → Reached (graph_at t p) q)
+      → word_after v p ws place old ≡ word_after w p ws place old
   written_agrees p [] place old r h = refl
   written_agrees p (x ∷ ws) place old r h =
       let en : value_at v p x.enable ≡ value_at w p x.enable = at_id p x.enable r (h _ first) in
@@ -168,7 +172,8 @@ edge_state t v state k = still_state t state k (next_register t v) (next_memory 
 
 pub reset_state : (t : Tree) (state : State) → IsStateOf t state → IsStateOf t (reset t state)
 reset_state t state k =
-    let s : IsStateOf t (changed t state k (initial_register t) (λ e. e) (λ e. refl) (λ e. refl) (λ e. refl)) = still_state t state k (initial_register t) (λ e. e) (λ e. refl) (λ e. refl) (λ e. refl) in
+    let s : IsStateOf t (changed t state k (initial_register t) (λ e. e) (λ e. refl) (λ e. refl) (λ e. refl)) = still_state t state k (initial_register t) (λ e. e) (λ e. refl)
+    (λ e. refl) (λ e. refl) in
     subst (λ ms. IsStateOf t (record { registers = map (initial_register t) state.registers; memories = ms })) (map-id state.memories) s
 
 -- one list of rows
@@ -187,12 +192,14 @@ module _ (t : Tree) (whole : IsWhole t) (free : ¬ HasCombLoop t) where
       let settled : IsSettled t state ins y.w = subst (λ z. IsSettled t z ins y.w) (cycle_state s ins state other b o c q k x y) y.settled_again in
       x.after_is ∙ outputs_agree t x.w y.w (settled_once t whole free state ins x.w y.w x.settled_again settled) ∙ sym y.after_is
 
-  pub trace_once : {state : State} {inputs : List ℕ} {count : ℕ} {steps : List Step} {rows others : List CycleRow} → IsStateOf t state → Trace t state inputs count steps rows → Trace t state inputs count steps others → rows ≡ others
+  pub trace_once : {state : State} {inputs : List ℕ} {count : ℕ} {steps : List Step} {rows others : List CycleRow} → IsStateOf t state
+      → Trace t state inputs count steps rows → Trace t state inputs count steps others → rows ≡ others
   trace_once k stop stop = refl
   trace_once k (set _ a) (set _ b) = trace_once k a b
   trace_once {state = s} k (start a) (start b) = trace_once (reset_state t s k) a b
   trace_once k (past a) (past b) = trace_once k a b
-  trace_once {state = s} {inputs = ins} {count = n} k (cycle {next = state} {before = b} {after = o} {times = times} {steps = steps} x run) (cycle {next = other} {before = c} {after = q} {rows = rest} y run_too) =
+  trace_once {state = s} {inputs = ins} {count = n} k (cycle {next = state} {before = b} {after = o} {times = times} {steps = steps} x run)
+      (cycle {next = other} {before = c} {after = q} {rows = rest} y run_too) =
       let same : other ≡ state = cycle_state s ins state other b o c q k x y in
       let u : Trace t state ins (suc n) (Cycle times ∷ steps) rest = subst (λ z. Trace t z ins (suc n) (Cycle times ∷ steps) rest) same run_too in
       ap₂ (λ z l. z ∷ l)

@@ -29,10 +29,14 @@ width_by r (Some row) = refl
 
 -- States that give twins the same numbers and words.
 pub record StatesAgree (s t : Tree) (st su : State) : Type 0 where
-  pub registers : (p : List ℕ) (n : ℕ) (q : List ℕ) (m : ℕ) (next : NodeId) (enable : Option NodeId) (clear : Option (NodeId × BitVector)) (init : BitVector) → NodeIs s p n (Reg next enable clear init) → Twin s t p n q m → look_up 0 st.registers (record { path = p; node = n }) ≡ look_up 0 su.registers (record { path = q; node = m })
-  pub memories : (p q : List ℕ) (to back : Renumbering) (k : ℕ) → Partners s t p q → IsIsomorphism to back (graph_at s p) (graph_at t q) → Reached (graph_at s p) (mem k) → look_up [] st.memories (record { path = p; node = k }) ≡ look_up [] su.memories (record { path = q; node = to.mem k })
+  pub registers : (p : List ℕ) (n : ℕ) (q : List ℕ) (m : ℕ) (next : NodeId) (enable : Option NodeId) (clear : Option (NodeId × BitVector)) (init : BitVector)
+      → NodeIs s p n (Reg next enable clear init) → Twin s t p n q m
+      → look_up 0 st.registers (record { path = p; node = n }) ≡ look_up 0 su.registers (record { path = q; node = m })
+  pub memories : (p q : List ℕ) (to back : Renumbering) (k : ℕ) → Partners s t p q → IsIsomorphism to back (graph_at s p) (graph_at t q) → Reached (graph_at s p) (mem k)
+      → look_up [] st.memories (record { path = p; node = k }) ≡ look_up [] su.memories (record { path = q; node = to.mem k })
 
-may_value_by : (r : Renumbering) (v w : Occurrence → ℕ) (p q : List ℕ) (o : Option NodeId) → ((id : NodeId) → o ≡ Some id → value_at v p id ≡ value_at w q (id_by r id)) → optional_value v p o ≡ optional_value w q (option_map (id_by r) o)
+may_value_by : (r : Renumbering) (v w : Occurrence → ℕ) (p q : List ℕ) (o : Option NodeId) → ((id : NodeId) → o ≡ Some id → value_at v p id ≡ value_at w q (id_by r id))
+    → optional_value v p o ≡ optional_value w q (option_map (id_by r) o)
 may_value_by r v w p q None h = refl
 may_value_by r v w p q (Some id) h = h id refl
 
@@ -40,7 +44,8 @@ may_value_by r v w p q (Some id) h = h id refl
 abbrev NeedsAgree : Tree → Tree → (Occurrence → ℕ) → (Occurrence → ℕ) → List ℕ → ℕ → Type 0
 NeedsAgree s t v w p n = (r : List ℕ) (k : ℕ) (u : List ℕ) (l : ℕ) → CombStep s p n r k → Twin s t r k u l → v (record { path = r; node = k }) ≡ w (record { path = u; node = l })
 
-input_twin : (laws : HavePartners) (s t : Tree) (ins : List ℕ) (v w : Occurrence → ℕ) (p : List ℕ) (n : ℕ) (q : List ℕ) (port : ℕ) → Partners s t p q → NodeIs s p n (Input port) → NeedsAgree s t v w p n
+input_twin : (laws : HavePartners) (s t : Tree) (ins : List ℕ) (v w : Occurrence → ℕ) (p : List ℕ) (n : ℕ) (q : List ℕ) (port : ℕ) → Partners s t p q
+    → NodeIs s p n (Input port) → NeedsAgree s t v w p n
     → ((r : List ℕ) (k : ℕ) → CombStep s p n r k → Reached (graph_at s r) (node k)) → input_value s ins v p port ≡ input_value t ins w q port
 input_twin laws s t ins v w [] n _ port top y a c = refl
 input_twin laws s t ins v w (i ∷ p) n _ port (below {q = q} {j = j} to back u x r l) y a c =
@@ -48,7 +53,8 @@ input_twin laws s t ins v w (i ∷ p) n _ port (below {q = q} {j = j} to back u 
     (λ id o. a p id.0 q (to.node id.0) (up port y o) (record { paths = u; to = to; back = back; pairs = x; reached = c p id.0 (up port y o); goes = refl }))
     ∙ ap (optional_value w q) (sym (ap (λ b. connection (graph_at t q) b port) (sym l) ∙ laws.connections (graph_at s p) (graph_at t q) to back x i port r))
 
-module _ (laws : HavePartners) (s t : Tree) (e : Same s t) (st su : State) (same : StatesAgree s t st su) (ins : List ℕ) (v w : Occurrence → ℕ) (p : List ℕ) (n : ℕ) (q : List ℕ) (m : ℕ) (tw : Twin s t p n q m) (a : NeedsAgree s t v w p n) where
+module _ (laws : HavePartners) (s t : Tree) (e : Same s t) (st su : State) (same : StatesAgree s t st su) (ins : List ℕ) (v w : Occurrence → ℕ) (p : List ℕ) (n : ℕ) (q : List ℕ)
+    (m : ℕ) (tw : Twin s t p n q m) (a : NeedsAgree s t v w p n) where
   abbrev IsHere : Node → Type 0
   IsHere x = NodeIs s p n x
 
@@ -67,7 +73,8 @@ module _ (laws : HavePartners) (s t : Tree) (e : Same s t) (st su : State) (same
   vectors x y [] h = refl
   vectors x y (id ∷ ids) h = ap₂ (λ b c. b ∷ c) (vector x y id (h id first)) (vectors x y ids (λ i k. h i (later k)))
 
-  output_twin : (i port : ℕ) → IsHere (InstOut (record { 0 = i }) port) → optional_value v (i ∷ p) (slice_get (graph_at s (i ∷ p)).outputs port) ≡ optional_value w (tw.to.inst i ∷ q) (slice_get (graph_at t (tw.to.inst i ∷ q)).outputs port)
+  output_twin : (i port : ℕ) → IsHere (InstOut (record { 0 = i }) port)
+      → optional_value v (i ∷ p) (slice_get (graph_at s (i ∷ p)).outputs port) ≡ optional_value w (tw.to.inst i ∷ q) (slice_get (graph_at t (tw.to.inst i ∷ q)).outputs port)
   output_twin i port y =
       let r : Reached (graph_at s p) (inst i) = reached_fanin (graph_at s p) n (InstOut (record { 0 = i }) port) (inst i) y.0 y.1 y.2 tw.reached first in
       let z : SomePairs (graph_at s (i ∷ p)) (graph_at t (tw.to.inst i ∷ q)) =
@@ -96,7 +103,8 @@ module _ (laws : HavePartners) (s t : Tree) (e : Same s t) (st su : State) (same
   twin_value (Op kind args) y = ap (λ i. (operation kind i).value) (vectors (Op kind args) y args (λ i h. h))
 
 -- Settled numbers agree at twins.
-module _ (laws : HavePartners) (s t : Tree) (e : Same s t) (whole : IsWhole s) (free : ¬ HasCombLoop s) (st su : State) (same : StatesAgree s t st su) (ins : List ℕ) (v w : Occurrence → ℕ) (a : IsSettled s st ins v) (b : IsSettled t su ins w) where
+module _ (laws : HavePartners) (s t : Tree) (e : Same s t) (whole : IsWhole s) (free : ¬ HasCombLoop s) (st su : State) (same : StatesAgree s t st su) (ins : List ℕ)
+    (v w : Occurrence → ℕ) (a : IsSettled s st ins v) (b : IsSettled t su ins w) where
   settled_deep : (f : ℕ) (p : List ℕ) (n : ℕ) (q : List ℕ) (m : ℕ) → Deep s whole free f p n → Twin s t p n q m → v (record { path = p; node = n }) ≡ w (record { path = q; node = m })
   settled_deep zero p n q m d tw = absurd (deep_none s whole free p n d)
   settled_deep (suc f) p n q m d tw =

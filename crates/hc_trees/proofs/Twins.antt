@@ -106,7 +106,8 @@ partners_reached s t (below to back u x r k) = (partners_reached s t u, r)
 pub twin_reached : (s t : Tree) {p q to : List ℕ} {n m k : ℕ} → Twin s t p n q m → CombStep s p n to k → Reached (graph_at s to) (node k)
 twin_reached s t w x = (step_reached s x (partners_reached s t w.paths, w.reached)).1
 
-twin_down : (s t : Tree) → Same s t → (p q : List ℕ) (n m i port k : ℕ) (w : Twin s t p n q m) → NodeIs s p n (InstOut (record { 0 = i }) port) → slice_get (graph_at s (i ∷ p)).outputs port ≡ Some (record { 0 = k }) → NextTwin s t (i ∷ p) k q m
+twin_down : (s t : Tree) → Same s t → (p q : List ℕ) (n m i port k : ℕ) (w : Twin s t p n q m) → NodeIs s p n (InstOut (record { 0 = i }) port)
+    → slice_get (graph_at s (i ∷ p)).outputs port ≡ Some (record { 0 = k }) → NextTwin s t (i ∷ p) k q m
 twin_down s t e p q n m i port k w y o =
     let r : Reached (graph_at s p) (inst i) = reached_fanin (graph_at s p) n (InstOut (record { 0 = i }) port) (inst i) y.0 y.1 y.2 w.reached first in
     let z : SomePairs (graph_at s (i ∷ p)) (graph_at t (w.to.inst i ∷ q)) =
@@ -118,7 +119,8 @@ twin_down s t e p q n m i port k w y o =
           (ap (λ l. slice_get l port) z.2.outputs ∙ slice_get-map (id_by z.0) (graph_at s (i ∷ p)).outputs port ∙ ap (option_map (id_by z.0)) o),
     )
 
-twin_up : (s t : Tree) (p : List ℕ) (i : ℕ) (q : List ℕ) (n m port k : ℕ) → Partners s t (i ∷ p) q → NodeIs t q m (Input port) → connection (graph_at s p) i port ≡ Some (record { 0 = k }) → Reached (graph_at s p) (node k) → NextTwin s t p k q m
+twin_up : (s t : Tree) (p : List ℕ) (i : ℕ) (q : List ℕ) (n m port k : ℕ) → Partners s t (i ∷ p) q → NodeIs t q m (Input port)
+    → connection (graph_at s p) i port ≡ Some (record { 0 = k }) → Reached (graph_at s p) (node k) → NextTwin s t p k q m
 twin_up s t p i _ n m port k (below {q = q} {j = j} to back u x r l) y o c = (
   q,
   to.node k,

@@ -14,7 +14,8 @@ SomePairs g h = (to : Renumbering) × (back : Renumbering) × IsIsomorphism to b
 -- Paths that are paired, instance by instance.
 pub data Partners (s t : Tree) : List ℕ → List ℕ → Type 0 where
   top : Partners s t [] []
-  below : {p q : List ℕ} {i j : ℕ} (to back : Renumbering) → Partners s t p q → IsIsomorphism to back (graph_at s p) (graph_at t q) → Reached (graph_at s p) (inst i) → to.inst i ≡ j → Partners s t (i ∷ p) (j ∷ q)
+  below : {p q : List ℕ} {i j : ℕ} (to back : Renumbering) → Partners s t p q → IsIsomorphism to back (graph_at s p) (graph_at t q) → Reached (graph_at s p) (inst i)
+      → to.inst i ≡ j → Partners s t (i ∷ p) (j ∷ q)
 
 -- Occurrences that are paired: their paths are, and so are their graphs.
 pub record Twin (s t : Tree) (p : List ℕ) (n : ℕ) (q : List ℕ) (m : ℕ) : Type 0 where

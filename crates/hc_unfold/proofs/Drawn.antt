@@ -15,7 +15,10 @@ use Rattle.hc_unfold.proofs.Lists.{nodes_onto, nodes_onto_more}
 abbrev Drawn : Type 0
 Drawn = Result (Graph × List NodeId) FaultKind
 
-pub drawn_more : (names : Names) (env : Bindings) (sigs : List Sig) (i : ℕ) (sig : Sig) (xs ys : List NodeId) (x : NodeId) (g h : Graph) (all : Drawn) → i < length sigs → sig ≡ get_or sigs i sig → node_of names (signal env sig) g ≡ Ok (h, x) → ys ≡ xs ++ x ∷ [] → nodes_onto xs (nodes_of names (signals (map (signal env) (drop i sigs))) g) ≡ all → nodes_onto ys (nodes_of names (signals (map (signal env) (drop (i + 1) sigs))) h) ≡ all
+pub drawn_more : (names : Names) (env : Bindings) (sigs : List Sig) (i : ℕ) (sig : Sig) (xs ys : List NodeId) (x : NodeId) (g h : Graph) (all : Drawn) → i < length sigs
+    → sig ≡ get_or sigs i sig → node_of names (signal env sig) g ≡ Ok (h, x) → ys ≡ xs ++ x ∷ []
+    → nodes_onto xs (nodes_of names (signals (map (signal env) (drop i sigs))) g) ≡ all
+    → nodes_onto ys (nodes_of names (signals (map (signal env) (drop (i + 1) sigs))) h) ≡ all
 drawn_more names env sigs i sig xs ys x g h all within item drawn e before =
     let rest : Graph → Drawn = nodes_of names (signals (map (signal env) (drop (i + 1) sigs))) in
     let cut : drop i sigs ≡ sig ∷ drop (i + 1) sigs = rw add-one (drop-cons sigs i sig within ∙ ap (λ (s : Sig). s ∷ drop (suc i) sigs) (sym item)) in

@@ -45,7 +45,8 @@ two_fits And v w a b e = ((eqb-true v w (test_holds _ _ e), refl), a)
 two_fits Or v w a b e = ((eqb-true v w (test_holds _ _ e), refl), a)
 two_fits Xor v w a b e = ((eqb-true v w (test_holds _ _ e), refl), a)
 
-pub two_follows : (g : Graph) (op : Op2) (a b : NodeId) (v u w : ℕ) → IsNode g a → IsNode g b → v ≡ width_at g a → IsWidth v → u ≡ width_at g b → IsWidth u → w ≡ two_width op v u → two_rule op v u ≡ None
+pub two_follows : (g : Graph) (op : Op2) (a b : NodeId) (v u w : ℕ) → IsNode g a → IsNode g b → v ≡ width_at g a → IsWidth v → u ≡ width_at g b → IsWidth u
+    → w ≡ two_width op v u → two_rule op v u ≡ None
     → IsWidth w × IsLawfulNode g w (Two op a b)
 two_follows g op a b v u w na nb va wa vb wb e r =
     let f : _ = two_fits op v u wa wb r in
@@ -106,5 +107,6 @@ takes_some Min = omega arith
 takes_some Max = omega arith
 takes_some SatAdd = omega arith
 
-pub op_follows : (g : Graph) (kind : OpKind) (args : List NodeId) (w : ℕ) → AreNodes g args → length args ≡ arity kind → list_all (λ v. v == w) (widths_at g args) ≡ true → IsLawfulNode g (result_width kind w) (Op kind args)
+pub op_follows : (g : Graph) (kind : OpKind) (args : List NodeId) (w : ℕ) → AreNodes g args → length args ≡ arity kind → list_all (λ v. v == w) (widths_at g args) ≡ true
+    → IsLawfulNode g (result_width kind w) (Op kind args)
 op_follows g kind args w are many equal = (w, many, all_have g args w are equal, refl)

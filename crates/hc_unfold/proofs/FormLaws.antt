@@ -26,7 +26,8 @@ driven : (g : Graph) (id from : NodeId) → IsFormed g → IsWire g id → IsNod
 driven g id from l (row, there, wired) node same =
     formed_changed g id.0 (driven_from from) row (drive_replaces g id from row l there wired node (sym (ap row_width there) ∙ same)) l
 
-more_writes : (g : Graph) (id : MemId) (w : WritePort) → IsFormed g → IsMemory g id → IsNode g w.enable → IsNode g w.addr → IsNode g w.value → width_at g w.enable ≡ 1 → width_at g w.value ≡ memory_width_at g id → IsFormed (with_write g id w)
+more_writes : (g : Graph) (id : MemId) (w : WritePort) → IsFormed g → IsMemory g id → IsNode g w.enable → IsNode g w.addr → IsNode g w.value → width_at g w.enable ≡ 1
+    → width_at g w.value ≡ memory_width_at g id → IsFormed (with_write g id w)
 more_writes g id w l b enable addr value one fits =
     let at : (m : Memory) × (slice_get g.memories id.0 ≡ Some m) = some_at g.memories id.0 b in
     let x : Memory = at.0 in
@@ -56,7 +57,12 @@ memory_labelled : (g : Graph) (id : MemId) (label : Name) → IsFormed g → IsM
 memory_labelled g id label l b =
     let at : (m : Memory) × (slice_get g.memories id.0 ≡ Some m) = some_at g.memories id.0 b in
     let was : IsLawfulMemory g at.0 = l.memories at.0 (has_from_place g.memories id.0 at.0 at.1) in
-    let lawful : IsLawfulMemory g (labelled_memory label at.0) = record { width = was.width; size = was.size; writes = λ p k. (let before : _ = was.writes p k in record { enable = before.enable; addr = before.addr; value = before.value }) } in
+    let lawful : IsLawfulMemory g (labelled_memory label at.0) = record {
+      width = was.width;
+      size = was.size;
+      writes = λ p k.
+          (let before : _ = was.writes p k in record { enable = before.enable; addr = before.addr; value = before.value });
+    } in
     formed_memory g id.0 (labelled_memory label) at.0 at.1 refl lawful l
 
 instance_labelled : (g : Graph) (id : InstId) (label : Name) → IsFormed g → IsInstance g id → IsFormed (with_instance_label g id label)

@@ -114,7 +114,8 @@ module _ (g : Graph) (n : ℕ) (label : Name) (old : Instance) (there : slice_ge
   abbrev changed : Graph
   changed = record g { instances = change_at f n g.instances }
 
-  instance_kept : (i : ℕ) (it : Instance) → slice_get g.instances i ≡ Some it → ((i ≡ n) × (old ≡ it) × (slice_get changed.instances i ≡ Some (f old))) ⊎ ((i ≢ n) × (slice_get changed.instances i ≡ Some it))
+  instance_kept : (i : ℕ) (it : Instance) → slice_get g.instances i ≡ Some it
+      → ((i ≡ n) × (old ≡ it) × (slice_get changed.instances i ≡ Some (f old))) ⊎ ((i ≢ n) × (slice_get changed.instances i ≡ Some it))
   instance_kept i it e = elim (cases_eq i n) [
     | inl same ↦ inl (same, same_Some old it (sym there ∙ (ap (slice_get g.instances) (sym same) ∙ e)), ap (slice_get changed.instances) same ∙ changed_there f n g.instances old there)
     | inr other ↦ inr (other, same_elsewhere f n g.instances i other ∙ e)

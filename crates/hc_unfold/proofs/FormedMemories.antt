@@ -50,7 +50,8 @@ module _ (g : Graph) (n : ℕ) (f : Memory → Memory) (old : Memory) (there : s
   abbrev changed : Graph
   changed = record g { memories = change_at f n g.memories }
 
-  memory_kept : (m : ℕ) (mem : Memory) → slice_get g.memories m ≡ Some mem → ((m ≡ n) × (old ≡ mem) × (slice_get changed.memories m ≡ Some (f old))) ⊎ ((m ≢ n) × (slice_get changed.memories m ≡ Some mem))
+  memory_kept : (m : ℕ) (mem : Memory) → slice_get g.memories m ≡ Some mem
+      → ((m ≡ n) × (old ≡ mem) × (slice_get changed.memories m ≡ Some (f old))) ⊎ ((m ≢ n) × (slice_get changed.memories m ≡ Some mem))
   memory_kept m mem e = elim (cases_eq m n) [
     | inl same ↦ inl (same, same_Some old mem (sym there ∙ (ap (slice_get g.memories) (sym same) ∙ e)), ap (slice_get changed.memories) same ∙ changed_there f n g.memories old there)
     | inr other ↦ inr (other, same_elsewhere f n g.memories m other ∙ e)

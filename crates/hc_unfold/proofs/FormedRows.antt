@@ -74,7 +74,8 @@ module _ (g : Graph) (n : ℕ) (f : NodeRow → NodeRow) (old : NodeRow) (r : Re
     ports = l.ports;
     nodes = λ m row e. elim (row_cases m row e) [
       | inl p ↦ (let was : _ = l.nodes n old r.there in
-          subst (λ (row' : NodeRow). IsWidth row'.width × IsLawfulNode changed row'.width row'.node) p.1 (subst IsWidth (sym r.width) was.0, lawful_node g changed grown (f old).width (f old).node r.node))
+          subst (λ (row' : NodeRow). IsWidth row'.width × IsLawfulNode changed row'.width row'.node) p.1
+          (subst IsWidth (sym r.width) was.0, lawful_node g changed grown (f old).width (f old).node r.node))
       | inr p ↦ (let was : _ = l.nodes m row p.1 in (was.0, lawful_node g changed grown row.width row.node was.1))
     ];
     memories = λ m k. lawful_memory g changed grown m (l.memories m k);
@@ -108,7 +109,8 @@ wire_back (Read a b) y w outer e = cc
 wire_back (InstOut a b) y w outer e = cc
 wire_back (Op a b) y w outer e = cc
 
-module _ (g : Graph) (wire from : NodeId) (row : NodeRow) (l : IsFormed g) (there : slice_get g.nodes wire.0 ≡ Some row) (w : is_wire row.node ≡ true) (node : IsNode g from) (same : row.width ≡ width_at g from) where
+module _ (g : Graph) (wire from : NodeId) (row : NodeRow) (l : IsFormed g) (there : slice_get g.nodes wire.0 ≡ Some row) (w : is_wire row.node ≡ true) (node : IsNode g from)
+    (same : row.width ≡ width_at g from) where
   abbrev made : NodeRow
   made = driven_from from row
 
@@ -126,7 +128,8 @@ module _ (g : Graph) (wire from : NodeId) (row : NodeRow) (l : IsFormed g) (ther
   }
 
 -- a node that stands for no port may take a label
-pub labelled_replaces : (g : Graph) (id : NodeId) (label : Name) (row : NodeRow) → IsFormed g → slice_get g.nodes id.0 ≡ Some row → is_input row.node ≡ false → is_output g id.0 ≡ false → Replaces g id.0 row (labelled_row label row)
+pub labelled_replaces : (g : Graph) (id : NodeId) (label : Name) (row : NodeRow) → IsFormed g → slice_get g.nodes id.0 ≡ Some row → is_input row.node ≡ false
+    → is_output g id.0 ≡ false → Replaces g id.0 row (labelled_row label row)
 labelled_replaces g id label row l there no_input no_output = record {
   there = there;
   width = refl;

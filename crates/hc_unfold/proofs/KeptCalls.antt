@@ -57,7 +57,8 @@ module _ (g : Graph) (l : IsFormed g) where
   kept_adjusted other x n nx = tt
 
   kept_const : (w n : ℤ) → Keeps g IsNode (const w n g)
-  kept_const w n = kept_then g (λ h v. IsOfWidth v) IsNode (given (number_bits w n) g) constant (kept_given g (λ h v. IsOfWidth v) (number_bits w n) l (λ v e. bits_of_numbers w n v e)) (λ h v lh gh is. kept_constant h lh v is)
+  kept_const w n = kept_then g (λ h v. IsOfWidth v) IsNode (given (number_bits w n) g) constant
+      (kept_given g (λ h v. IsOfWidth v) (number_bits w n) l (λ v e. bits_of_numbers w n v e)) (λ h v lh gh is. kept_constant h lh v is)
 
   kept_choice : (xs : List NodeId) → AreNodes g xs → Keeps g IsNode (choice xs g)
   kept_choice (s ∷ a ∷ b ∷ cases) nodes = kept_mux g l s (a ∷ b ∷ cases) (nodes s first) (λ id has. nodes id (later has)) (omega arith)
@@ -107,4 +108,5 @@ module _ (g : Graph) (l : IsFormed g) where
   kept_called w xs (m ∷ n ∷ k ∷ more) nodes = tt
 
   pub kept_operated : (kind : OpKind) (args : List NodeId) → AreNodes g args → Keeps g IsNode (operated kind args g)
-  kept_operated kind args nodes = kept_rule g IsNode UnknownOp (length args == arity kind) (operation kind args) (λ holds. kept_operation g l kind args nodes (eqb-true (length args) (arity kind) holds))
+  kept_operated kind args nodes = kept_rule g IsNode UnknownOp (length args == arity kind) (operation kind args)
+      (λ holds. kept_operation g l kind args nodes (eqb-true (length args) (arity kind) holds))

@@ -104,11 +104,13 @@ module _ (g : Graph) (l : IsFormed g) where
 
 module _ (g : Graph) (l : IsFormed g) where
   pub kept_uresize : (x : NodeId) (z : ℤ) → IsNode g x → Keeps g IsNode (uresize x z g)
-  kept_uresize x z nx = kept_then g (λ h n. IsWidth n) IsNode (given (as_width z) g) (λ n. width x >>= (λ w. zero_extended x w n)) (kept_given g (λ h n. IsWidth n) (as_width z) l (λ n e. width_of_number z n e))
+  kept_uresize x z nx = kept_then g (λ h n. IsWidth n) IsNode (given (as_width z) g) (λ n. width x >>= (λ w. zero_extended x w n))
+      (kept_given g (λ h n. IsWidth n) (as_width z) l (λ n e. width_of_number z n e))
       (λ h n lh gh b. kept_zero_extended h lh x (width_at h x) n (node_still g h x gh nx) b)
 
   pub kept_sresize : (x : NodeId) (z : ℤ) → IsNode g x → Keeps g IsNode (sresize x z g)
-  kept_sresize x z nx = kept_then g (λ h n. IsWidth n) IsNode (given (as_width z) g) (λ n. width x >>= (λ w. sign_extended x w n)) (kept_given g (λ h n. IsWidth n) (as_width z) l (λ n e. width_of_number z n e))
+  kept_sresize x z nx = kept_then g (λ h n. IsWidth n) IsNode (given (as_width z) g) (λ n. width x >>= (λ w. sign_extended x w n))
+      (kept_given g (λ h n. IsWidth n) (as_width z) l (λ n e. width_of_number z n e))
       (λ h n lh gh b. kept_sign_extended h lh x (width_at h x) n (node_still g h x gh nx) b)
 
   -- ---- shifts

@@ -133,7 +133,8 @@ module _ (g : Graph) (l : IsFormed g) where
   pub kept_select : (a : NodeId) (hi lo : ℤ) → IsNode g a → Keeps g IsNode (select a hi lo g)
   kept_select a hi lo na = kept_adds g (select_rule (width_at g a) hi lo) (select_width (nat_abs hi) (nat_abs lo)) (node.Select a (nat_abs hi) (nat_abs lo)) l (λ holds. follows hi lo holds) refl
     where
-      follows : (hi lo : ℤ) → select_rule (width_at g a) hi lo ≡ None → IsWidth (select_width (nat_abs hi) (nat_abs lo)) × IsLawfulNode g (select_width (nat_abs hi) (nat_abs lo)) (node.Select a (nat_abs hi) (nat_abs lo))
+      follows : (hi lo : ℤ) → select_rule (width_at g a) hi lo ≡ None
+          → IsWidth (select_width (nat_abs hi) (nat_abs lo)) × IsLawfulNode g (select_width (nat_abs hi) (nat_abs lo)) (node.Select a (nat_abs hi) (nat_abs lo))
       follows (pos h) (pos n) holds =
           let parts : _ = and_parts (nat_le n h) (nat_lt h (width_at g a)) (test_holds fault.SelectRange (nat_le n h && nat_lt h (width_at g a)) holds) in
           let order : n ≤ h = leb-true n h parts.0 in

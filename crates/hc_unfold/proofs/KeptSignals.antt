@@ -57,7 +57,8 @@ output_within : (n : ℕ) (i : InstId) (port : ℕ) (rows : List NodeRow) (id : 
 output_within n i port [] id e = absurd cc
 output_within n i port (row ∷ rows) id e = by (stands_for i port row.node) e (λ later'. output_within (n + 1) i port rows id later')
   where
-    by : (b : Bool) → cond b (Some (record { 0 = n })) (output_from (n + 1) i port rows) ≡ Some id → (output_from (n + 1) i port rows ≡ Some id → id.0 < n + 1 + length rows) → id.0 < n + length (row ∷ rows)
+    by : (b : Bool) → cond b (Some (record { 0 = n })) (output_from (n + 1) i port rows) ≡ Some id
+        → (output_from (n + 1) i port rows ≡ Some id → id.0 < n + 1 + length rows) → id.0 < n + length (row ∷ rows)
     by true is rest = let same : ◌≡◌ {A = NodeId} (record { 0 = n }) id = cc in subst (λ (x : NodeId). x.0 < n + length (row ∷ rows)) same (omega arith)
     by false is rest = let less : id.0 < n + 1 + length rows = rest is in omega (arith, less)
 
@@ -78,10 +79,12 @@ abbrev Any : {A : Type 0} → Graph → A → Type 0
 Any g x = Unit {0}
 
 kept_sized : (g : Graph) → IsFormed g → (w : ℤ) (v : ℕ) → Keeps g IsNode (sized w v g)
-kept_sized g l w v = kept_then g (λ h x. IsOfWidth x) IsNode (given (literal w v) g) constant (kept_given g (λ h x. IsOfWidth x) (literal w v) l (λ x e. bits_of_literal w v x e)) (λ h x lh gh is. kept_constant h lh x is)
+kept_sized g l w v = kept_then g (λ h x. IsOfWidth x) IsNode (given (literal w v) g) constant (kept_given g (λ h x. IsOfWidth x) (literal w v) l (λ x e. bits_of_literal w v x e))
+    (λ h x lh gh is. kept_constant h lh x is)
 
 kept_named : (g : Graph) → IsFormed g → (name : List ℕ) (xs : List NodeId) → AreNodes g xs → Keeps g IsNode (operation_named name xs g)
-kept_named g l name xs nodes = kept_then g Any IsNode (demand UnknownOp (find_kind name) g) (λ kind. operated kind xs) (kept_demand g Any UnknownOp (find_kind name) l (λ kind e. tt)) (λ h kind lh gh any. kept_operated h lh kind xs (nodes_still g h xs gh nodes))
+kept_named g l name xs nodes = kept_then g Any IsNode (demand UnknownOp (find_kind name) g) (λ kind. operated kind xs)
+    (kept_demand g Any UnknownOp (find_kind name) l (λ kind e. tt)) (λ h kind lh gh any. kept_operated h lh kind xs (nodes_still g h xs gh nodes))
 
 one_more : (g : Graph) (x : NodeId) (xs : List NodeId) → IsNode g x → AreNodes g xs → AreNodes g (x ∷ xs)
 one_more g x xs nx nodes id first = nx
@@ -93,7 +96,8 @@ module _ (names : Names) where
       (λ h i lh gh any. kept_given h IsNode (instance_output i name h) lh (λ id e. output_is_node h i name id e))
 
   kept_read_from : (g : Graph) → IsFormed g → AreKnown g names → (k : Key) (x : NodeId) → IsNode g x → Keeps g IsNode (read_from names k x g)
-  kept_read_from g l known k x nx = kept_then g IsMemory IsNode (demand UnknownName (as_memory (meaning names k)) g) (λ m. read m x) (kept_demand g IsMemory UnknownName (as_memory (meaning names k)) l (λ m e. as_memory_is names k g known (meaning names k) refl m e))
+  kept_read_from g l known k x nx = kept_then g IsMemory IsNode (demand UnknownName (as_memory (meaning names k)) g) (λ m. read m x)
+      (kept_demand g IsMemory UnknownName (as_memory (meaning names k)) l (λ m e. as_memory_is names k g known (meaning names k) refl m e))
       (λ h m lh gh there. kept_read h lh m x there (node_still g h x gh nx))
 
   mutual

@@ -53,11 +53,14 @@ first_stands i p r row f at is =
     let yes : stands_for i p r.node ≡ true = subst (λ (x : Node). stands_for i p x ≡ true) (sym (ap (λ (s : NodeRow). s.node) same ∙ is)) (itself i p) in
     cc
 
-found_from : (n : ℕ) (i : InstId) (p : ℕ) (rows : List NodeRow) (k : ℕ) (row : NodeRow) → slice_get rows k ≡ Some row → row.node ≡ InstOut i p → Alone i p rows k → output_from n i p rows ≡ Some (record { 0 = n + k })
+found_from : (n : ℕ) (i : InstId) (p : ℕ) (rows : List NodeRow) (k : ℕ) (row : NodeRow) → slice_get rows k ≡ Some row → row.node ≡ InstOut i p → Alone i p rows k
+    → output_from n i p rows ≡ Some (record { 0 = n + k })
 found_from n i p [] k row at is only = absurd cc
 found_from n i p (r ∷ rows) k row at is only = by (stands_for i p r.node) refl k at only (λ j there alone. found_from (n + 1) i p rows j row there is alone)
   where
-    by : (b : Bool) → stands_for i p r.node ≡ b → (k : ℕ) → slice_get (r ∷ rows) k ≡ Some row → Alone i p (r ∷ rows) k → ((j : ℕ) → slice_get rows j ≡ Some row → Alone i p rows j → output_from (n + 1) i p rows ≡ Some (record { 0 = n + 1 + j })) → cond b (Some (record { 0 = n })) (output_from (n + 1) i p rows) ≡ Some (record { 0 = n + k })
+    by : (b : Bool) → stands_for i p r.node ≡ b → (k : ℕ) → slice_get (r ∷ rows) k ≡ Some row → Alone i p (r ∷ rows) k
+        → ((j : ℕ) → slice_get rows j ≡ Some row → Alone i p rows j → output_from (n + 1) i p rows ≡ Some (record { 0 = n + 1 + j }))
+        → cond b (Some (record { 0 = n })) (output_from (n + 1) i p rows) ≡ Some (record { 0 = n + k })
     by true e k at only more = let zeroth : 0 ≡ k = only 0 r refl (stands i p r.node e) in numbered n (n + k) (omega (arith, zeroth))
     by false e zero at only more = absurd (first_stands i p r row e at is)
     by false e (suc k) at only more = more k at (λ m s there was. suc_is m k (only (suc m) s there was)) ∙ numbered (n + 1 + k) (n + suc k) (omega arith)
@@ -70,7 +73,8 @@ output_found g i p id lawful (row, at, is) =
 pub output_is_node : (g : Graph) (n : ℕ) (x : Node) → NodeAt g n x → n < length g.nodes
 output_is_node g n x (row, at, is) = slice_get_within g.nodes n row at
 
-pub output_is : (g : Graph) (i : InstId) (name : List ℕ) (it : Instance) (place port : ℕ) (id : NodeId) → slice_get g.instances i.0 ≡ Some it → port_place name it.ports.outputs ≡ Some place → port ≡ place → IsLawful g → NodeAt g id.0 (InstOut i port) → instance_output i name g ≡ Ok id
+pub output_is : (g : Graph) (i : InstId) (name : List ℕ) (it : Instance) (place port : ℕ) (id : NodeId) → slice_get g.instances i.0 ≡ Some it
+    → port_place name it.ports.outputs ≡ Some place → port ≡ place → IsLawful g → NodeAt g id.0 (InstOut i port) → instance_output i name g ≡ Ok id
 output_is g i name it place port id row named same lawful at =
     ap (λ (o : Option Instance). found UnknownPort (output_node g i (output_place name o))) row
     ∙ ap (λ (o : Option ℕ). found UnknownPort (output_node g i o)) named

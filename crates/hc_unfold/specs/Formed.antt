@@ -42,7 +42,11 @@ more_inputs g name w = with_row (record g { ports = record { inputs = g.ports.in
 
 -- one output port more, and its wire
 abbrev pub more_outputs : Graph → Name → ℕ → Graph
-more_outputs g name w = with_row (record g { ports = record { inputs = g.ports.inputs; outputs = g.ports.outputs ++ port name w ∷ [] }; outputs = g.outputs ++ record { 0 = length g.nodes } ∷ [] }) (unlabelled w (Wire None))
+more_outputs g name w = with_row (record g {
+  ports = record { inputs = g.ports.inputs; outputs = g.ports.outputs ++ port name w ∷ [] };
+  outputs = g.outputs
+      ++ record { 0 = length g.nodes } ∷ [];
+}) (unlabelled w (Wire None))
 
 abbrev pub more_memories : Graph → ℕ → ℕ → Graph
 more_memories g size w = record g { memories = g.memories ++ record { size = size; width = w; writes = []; label = None } ∷ [] }
@@ -59,7 +63,8 @@ pub record ChangesKeepForm : Type 0 where
   pub memory : (g : Graph) (size w : ℕ) → IsFormed g → IsWidth w → 1 ≤ size → size ≤ 65536 → IsFormed (more_memories g size w)
   pub instance : (g : Graph) (ports : Ports) (conns : List NodeId) → IsFormed g → ArePorts ports → HaveWidthsOf g conns ports.inputs → IsFormed (more_instances g ports conns)
   pub driver : (g : Graph) (id from : NodeId) → IsFormed g → IsWire g id → IsNode g from → width_at g id ≡ width_at g from → IsFormed (with_driver g id from)
-  pub write : (g : Graph) (id : MemId) (w : WritePort) → IsFormed g → IsMemory g id → IsNode g w.enable → IsNode g w.addr → IsNode g w.value → width_at g w.enable ≡ 1 → width_at g w.value ≡ memory_width_at g id → IsFormed (with_write g id w)
+  pub write : (g : Graph) (id : MemId) (w : WritePort) → IsFormed g → IsMemory g id → IsNode g w.enable → IsNode g w.addr → IsNode g w.value → width_at g w.enable ≡ 1
+      → width_at g w.value ≡ memory_width_at g id → IsFormed (with_write g id w)
   pub node_label : (g : Graph) (id : NodeId) (label : Name) → IsFormed g → IsNode g id → is_port_node g id ≡ false → IsFormed (with_node_label g id label)
   pub memory_label : (g : Graph) (id : MemId) (label : Name) → IsFormed g → IsMemory g id → IsFormed (with_memory_label g id label)
   pub instance_label : (g : Graph) (id : InstId) (label : Name) → IsFormed g → IsInstance g id → IsFormed (with_instance_label g id label)

@@ -35,7 +35,8 @@ rest_small : (x : BitVector) (xs : List BitVector) → (cat_all (x ∷ xs)).widt
 rest_small x [] l = omega arith
 rest_small x (y ∷ ys) l = let h : x.width + (cat_all (y ∷ ys)).width ≤ 128 = l in omega (arith, h)
 
-pub rest_fits : (g : Graph) (values : List BitVector) (parts : List NodeId) (id : NodeId) (rest : List NodeId) → parts ≡ id ∷ rest → (cat_all (map (operand g values) parts)).width ≤ 128 → (cat_all (map (operand g values) rest)).width ≤ 128
+pub rest_fits : (g : Graph) (values : List BitVector) (parts : List NodeId) (id : NodeId) (rest : List NodeId) → parts ≡ id ∷ rest
+    → (cat_all (map (operand g values) parts)).width ≤ 128 → (cat_all (map (operand g values) rest)).width ≤ 128
 rest_fits g values parts id rest e l = rest_small (operand g values id) (map (operand g values) rest) (subst (λ (p : List NodeId). (cat_all (map (operand g values) p)).width ≤ 128) e l)
 
 pub rest_within : (g : Graph) (parts : List NodeId) (id : NodeId) (rest : List NodeId) → parts ≡ id ∷ rest → AreWithin g parts → AreWithin g rest
@@ -78,7 +79,8 @@ module _ (g : Graph) (l : IsLawful g) (kept : Kept) (fits : AreRowsOf g kept) (n
       let h = node_lawful (Two op a b) is in
       let whole : x ≡ binary op (operand g kept.values a) (operand g kept.values b) = e ∙ ap₂ (binary op) ey ez in
       arm g kept n row (Two op a b) x is
-      (ap (λ (b : BitVector). b.width) whole ∙ binary_width op (operand g kept.values a) (operand g kept.values b) h.0 h.1 row.width (operand_width g kept.values a h.0 h.2) (operand_width g kept.values b h.1 h.3) h.4)
+      (ap (λ (b : BitVector). b.width) whole ∙ binary_width op (operand g kept.values a) (operand g kept.values b) h.0 h.1 row.width (operand_width g kept.values a h.0 h.2)
+      (operand_width g kept.values b h.1 h.3) h.4)
       (ap (λ (b : BitVector). b.value) whole)
 
   pub cat_within : (parts all : List NodeId) → row.node ≡ Cat parts → all ≡ parts → AreWithin g all
@@ -97,7 +99,8 @@ module _ (g : Graph) (l : IsLawful g) (kept : Kept) (fits : AreRowsOf g kept) (n
       let whole : x ≡ cat_all (map (operand g kept.values) parts) = e ∙ ap (λ (p : List NodeId). cat_all (map (operand g kept.values) p)) same in
       arm g kept n row (Cat parts) x is (ap (λ (b : BitVector). b.width) whole ∙ cat_total parts is) (ap (λ (b : BitVector). b.value) whole)
 
-  pub mux_arm : (sel : NodeId) (cases all : List NodeId) (s x : BitVector) → row.node ≡ Mux sel cases → all ≡ cases → s ≡ operand g kept.values sel → x ≡ mux s (map (operand g kept.values) all) → x ≡ own_vector g kept n row
+  pub mux_arm : (sel : NodeId) (cases all : List NodeId) (s x : BitVector) → row.node ≡ Mux sel cases → all ≡ cases → s ≡ operand g kept.values sel
+      → x ≡ mux s (map (operand g kept.values) all) → x ≡ own_vector g kept n row
   mux_arm sel cases all s x is same picked e =
       let h = node_lawful (Mux sel cases) is in
       let whole : x ≡ mux (operand g kept.values sel) (map (operand g kept.values) cases) = e ∙ ap₂ (λ (b : BitVector) (p : List NodeId). mux b (map (operand g kept.values) p)) picked same in
@@ -116,12 +119,14 @@ module _ (g : Graph) (l : IsLawful g) (kept : Kept) (fits : AreRowsOf g kept) (n
       subst (λ (p : List NodeId). AreLawful kind (map (operand g kept.values) p)) (sym same)
       (length-map args (operand g kept.values) ∙ h.1, one_width (map (operand g kept.values) args) h.0 (cases_widths g kept.values args h.0 h.2))
 
-  pub operation_arm : (kind : OpKind) (args all : List NodeId) (x : BitVector) → row.node ≡ Op kind args → all ≡ args → x ≡ operation kind (map (operand g kept.values) all) → x ≡ own_vector g kept n row
+  pub operation_arm : (kind : OpKind) (args all : List NodeId) (x : BitVector) → row.node ≡ Op kind args → all ≡ args
+      → x ≡ operation kind (map (operand g kept.values) all) → x ≡ own_vector g kept n row
   operation_arm kind args all x is same e =
       let h = node_lawful (Op kind args) is in
       let whole : x ≡ operation kind (map (operand g kept.values) args) = e ∙ ap (λ (p : List NodeId). operation kind (map (operand g kept.values) p)) same in
       arm g kept n row (Op kind args) x is
-      (ap (λ (b : BitVector). b.width) whole ∙ operation_width kind (map (operand g kept.values) args) h.0 (length-map args (operand g kept.values) ∙ h.1) (cases_widths g kept.values args h.0 h.2) ∙ sym h.3)
+      (ap (λ (b : BitVector). b.width) whole ∙ operation_width kind (map (operand g kept.values) args) h.0 (length-map args (operand g kept.values) ∙ h.1)
+      (cases_widths g kept.values args h.0 h.2) ∙ sym h.3)
       (ap (λ (b : BitVector). b.value) whole)
 
   pub select_within : (a : NodeId) (hi lo : ℕ) → row.node ≡ Select a hi lo → a.0 < length g.nodes
@@ -141,7 +146,8 @@ module _ (g : Graph) (l : IsLawful g) (kept : Kept) (fits : AreRowsOf g kept) (n
   pub register_within : n < length kept.registers
   register_within = value_within g kept.registers n fits.registers (slice_get_within g.nodes n row at)
 
-  pub register_arm : (next : NodeId) (enable : Option NodeId) (clear : Option (NodeId × BitVector)) (init x : BitVector) → row.node ≡ Reg next enable clear init → x ≡ get_or kept.registers n x → x ≡ own_vector g kept n row
+  pub register_arm : (next : NodeId) (enable : Option NodeId) (clear : Option (NodeId × BitVector)) (init x : BitVector) → row.node ≡ Reg next enable clear init
+      → x ≡ get_or kept.registers n x → x ≡ own_vector g kept n row
   register_arm next enable clear init x is e =
       arm g kept n row (Reg next enable clear init) x is
       (alike (λ (b : BitVector). b.width) (λ (r : NodeRow). r.width) kept.registers g.nodes fits.registers n row x at e)
@@ -160,10 +166,12 @@ module _ (g : Graph) (l : IsLawful g) (kept : Kept) (fits : AreRowsOf g kept) (n
   pub output_arm : (i : InstId) (port : ℕ) (x : BitVector) → row.node ≡ InstOut i port → x ≡ get_or kept.values n x → x ≡ own_vector g kept n row
   output_arm i port x is e = kept_arm x e (ap (own_value g kept n) is)
 
-  pub read_arm : (m : MemId) (addr : NodeId) (a x : BitVector) → row.node ≡ Read m addr → a ≡ operand g kept.values addr → x ≡ word_or_zero row.width (slice_get (words_at kept.memories m.0) a.value) → x ≡ own_vector g kept n row
+  pub read_arm : (m : MemId) (addr : NodeId) (a x : BitVector) → row.node ≡ Read m addr → a ≡ operand g kept.values addr
+      → x ≡ word_or_zero row.width (slice_get (words_at kept.memories m.0) a.value) → x ≡ own_vector g kept n row
   read_arm m addr a x is picked e =
       let h = node_lawful (Read m addr) is in
-      let w : (words : List BitVector) × (slice_get kept.memories m.0 ≡ Some words) × (widths words ≡ memory_widths h.2.0) = found widths memory_widths kept.memories g.memories m.0 h.2.0 fits.memories h.2.1 in
+      let w : (words : List BitVector) × (slice_get kept.memories m.0 ≡ Some words)
+      × (widths words ≡ memory_widths h.2.0) = found widths memory_widths kept.memories g.memories m.0 h.2.0 fits.memories h.2.1 in
       let words : List BitVector = words_at kept.memories m.0 in
       let k : ℕ = number_at kept.values addr.0 in
       let whole : x ≡ word_or_zero row.width (slice_get words k) = e ∙ ap (λ (b : BitVector). word_or_zero row.width (slice_get words b.value)) picked in

@@ -61,7 +61,8 @@ mux_width s xs w l h =
     ap (λ (b : BitVector). b.width) (sym is) ∙ h r (has_slice xs place r at)
 
 -- what is picked by its place, from cases that are read one by one
-pub mux_picks : (g : Graph) (values : List BitVector) (s : BitVector) (ids : List NodeId) (place : ℕ) (id : NodeId) (r : BitVector) → 1 ≤ length ids → place ≡ min s.value (length ids - 1) → slice_get ids place ≡ Some id → r ≡ operand g values id → r ≡ mux s (map (operand g values) ids)
+pub mux_picks : (g : Graph) (values : List BitVector) (s : BitVector) (ids : List NodeId) (place : ℕ) (id : NodeId) (r : BitVector) → 1 ≤ length ids
+    → place ≡ min s.value (length ids - 1) → slice_get ids place ≡ Some id → r ≡ operand g values id → r ≡ mux s (map (operand g values) ids)
 mux_picks g values s ids place id r l e at is =
     let xs : List BitVector = map (operand g values) ids in
     let many : length xs ≡ length ids = length-map ids (operand g values) in

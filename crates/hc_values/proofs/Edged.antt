@@ -88,7 +88,8 @@ next_by_again : (v : Occurrence → ℕ) (p : List ℕ) (o : Option NodeRow) (ol
 next_by_again v p None old = refl
 next_by_again v p (Some row) old = next_again v p row.node old
 
-next_here : (t : Tree) (p : List ℕ) (v : Occurrence → ℕ) (g : Graph) (values : List BitVector) → StandsAt t p v g values → (o : Option NodeRow) (x : BitVector) → (next_of_row values o x).value ≡ next_by v p x.value o
+next_here : (t : Tree) (p : List ℕ) (v : Occurrence → ℕ) (g : Graph) (values : List BitVector) → StandsAt t p v g values → (o : Option NodeRow) (x : BitVector)
+    → (next_of_row values o x).value ≡ next_by v p x.value o
 next_here t p v g values at None x = refl
 next_here t p v g values at (Some row) x = next_is t p v g values at row.node x.value
 
@@ -132,7 +133,8 @@ words_by_again v p (Some m) old =
     composed (word_after v p m.writes) (word_after v p m.writes) 0 old
     ∙ each_same (λ place x. word_after v p m.writes place (word_after v p m.writes place x)) (word_after v p m.writes) (word_again v p m.writes) 0 old
 
-words_here : (t : Tree) (p : List ℕ) (v : Occurrence → ℕ) (g : Graph) (values : List BitVector) → StandsAt t p v g values → (o : Option Memory) (words : List BitVector) → numbers (next_of_memory g values o words) ≡ words_by v p (numbers words) o
+words_here : (t : Tree) (p : List ℕ) (v : Occurrence → ℕ) (g : Graph) (values : List BitVector) → StandsAt t p v g values → (o : Option Memory) (words : List BitVector)
+    → numbers (next_of_memory g values o words) ≡ words_by v p (numbers words) o
 words_here t p v g values at None words = refl
 words_here t p v g values at (Some m) words =
     sym (words_written g values m.writes words) ∙ each_same (word_after (valuation values) [] m.writes) (word_after v p m.writes) (word_is t p v g values at m.writes) 0 (numbers words)
@@ -152,7 +154,8 @@ module _ (t : Tree) (p : List ℕ) (v : Occurrence → ℕ) (g : Graph) (values 
   all_written None q =
       let none : memory ≡ None = none_alike widths memory_widths old g.memories id.0 before q in
       let past : slice_get new id.0 ≡ None = none_alike memory_widths widths g.memories new id.0 (sym after) none in
-      ap₂ (λ (l : List ℕ) (r : Option Memory). words_by v p l r) (ap (λ (o : Option (List BitVector)). numbers (words_of o)) q) none ∙ sym (ap (λ (o : Option (List BitVector)). numbers (words_of o)) past)
+      ap₂ (λ (l : List ℕ) (r : Option Memory). words_by v p l r) (ap (λ (o : Option (List BitVector)). numbers (words_of o)) q) none
+      ∙ sym (ap (λ (o : Option (List BitVector)). numbers (words_of o)) past)
   all_written (Some x) q =
       let made : HasItem (next_words_at g values) id.0 (Written x) (written_again x) (updated (next_words_at g values) (memory_places ids) old) =
       updated_makes (next_words_at g values) id.0 (Written x) (written_again x) (memory_places ids) old x q (has_map (λ (i : MemId). i.0) has) (words_here t p v g values at memory x) in
@@ -201,8 +204,10 @@ pub registers_reset : (g : Graph) (ids : List NodeId) (old new : List BitVector)
 registers_reset g ids old new before is t p at id has register =
     let row : (row : NodeRow) × (slice_get g.nodes id.0 ≡ Some row) = has_register (slice_get g.nodes id.0) register in
     let x : (x : BitVector) × (slice_get old id.0 ≡ Some x) × (x.width ≡ row.0.width) = found (λ (b : BitVector). b.width) (λ (r : NodeRow). r.width) old g.nodes id.0 row.0 before row.1 in
-    let made : HasItem (initial_register_at g) id.0 (λ (y : BitVector). y.value ≡ initial_by (slice_get g.nodes id.0)) (λ (y : BitVector) _. row_starts (slice_get g.nodes id.0) y register) (updated (initial_register_at g) (places ids) old) =
-    updated_makes (initial_register_at g) id.0 (λ (y : BitVector). y.value ≡ initial_by (slice_get g.nodes id.0)) (λ (y : BitVector) _. row_starts (slice_get g.nodes id.0) y register) (places ids) old x.0 x.1
+    let made : HasItem (initial_register_at g) id.0 (λ (y : BitVector). y.value ≡ initial_by (slice_get g.nodes id.0))
+    (λ (y : BitVector) _. row_starts (slice_get g.nodes id.0) y register) (updated (initial_register_at g) (places ids) old) =
+    updated_makes (initial_register_at g) id.0 (λ (y : BitVector). y.value ≡ initial_by (slice_get g.nodes id.0))
+    (λ (y : BitVector) _. row_starts (slice_get g.nodes id.0) y register) (places ids) old x.0 x.1
     (has_map (λ (i : NodeId). i.0) has) (row_starts (slice_get g.nodes id.0) x.0 register) in
     ap (λ (h : Graph). (at_path p id.0, initial_by (slice_get h.nodes id.0))) at
     ∙ ap (λ (k : ℕ). (at_path p id.0, k)) (sym made.2 ∙ sym (ap number_of (ap (λ (l : List BitVector). slice_get l id.0) is ∙ made.1)))

@@ -43,8 +43,10 @@ operand_is g values id x e at =
     let r : (row : NodeRow) × (slice_get g.nodes id.0 ≡ Some row) × (row.width ≡ x.width) = found (λ (row : NodeRow). row.width) (λ (b : BitVector). b.width) g.nodes values id.0 x (sym e) at in
     sym (ap₂ (λ o p. record { width = width_of o; value = number_of p }) r.1 at ∙ ap (λ w. record { width = w; value = x.value }) r.2)
 
-pub operand_read : (g : Graph) (values : List BitVector) (id : NodeId) (x : BitVector) → widths values ≡ node_widths g.nodes → id.0 < length g.nodes → x ≡ get_or values id.0 x → x ≡ operand g values id
-operand_read g values id x e l at = operand_is g values id x e (slice_get_read values (length g.nodes) id.0 x (sym (many (λ (b : BitVector). b.width) (λ (row : NodeRow). row.width) values g.nodes e)) l at)
+pub operand_read : (g : Graph) (values : List BitVector) (id : NodeId) (x : BitVector) → widths values ≡ node_widths g.nodes → id.0 < length g.nodes
+    → x ≡ get_or values id.0 x → x ≡ operand g values id
+operand_read g values id x e l at = operand_is g values id x e
+    (slice_get_read values (length g.nodes) id.0 x (sym (many (λ (b : BitVector). b.width) (λ (row : NodeRow). row.width) values g.nodes e)) l at)
 
 pub value_within : (g : Graph) (values : List BitVector) (n : ℕ) → widths values ≡ node_widths g.nodes → n < length g.nodes → n < length values
 value_within g values n e l = subst (λ k. n < k) (sym (many (λ (b : BitVector). b.width) (λ (row : NodeRow). row.width) values g.nodes e)) l

@@ -26,7 +26,8 @@ word_set words n w k x e wide = go (slice_get words k) refl
     go : (o : Option BitVector) → slice_get words k ≡ o → widths (slice_set words k x) ≡ replicate n w
     go None q = ap widths (past_set words k x q) ∙ e
     go (Some y) q =
-        let old : y.width ≡ w = same_width n w k y.width (ap (λ (l : List ℕ). slice_get l k) (sym e) ∙ slice_get-map (λ (b : BitVector). b.width) words k ∙ ap (option_map (λ (b : BitVector). b.width)) q) in
+        let old : y.width ≡ w = same_width n w k y.width (ap (λ (l : List ℕ). slice_get l k) (sym e) ∙ slice_get-map (λ (b : BitVector). b.width) words k
+        ∙ ap (option_map (λ (b : BitVector). b.width)) q) in
         same_set (λ (b : BitVector). b.width) words k x y q (wide ∙ sym old) ∙ e
 
 module _ (g : Graph) (values : List BitVector) (n w : ℕ) where
@@ -37,11 +38,13 @@ module _ (g : Graph) (values : List BitVector) (n w : ℕ) where
       go true = word_set words n w (number_at values p.addr.0) (operand g values p.value) e (operand_width g values p.value w h)
       go false = e
 
-  pub all_written : (ws : List WritePort) → ((p : WritePort) → Has ws p → HasWidth g p.value w) → (words : List BitVector) → widths words ≡ replicate n w → widths (written_all g values ws words) ≡ replicate n w
+  pub all_written : (ws : List WritePort) → ((p : WritePort) → Has ws p → HasWidth g p.value w) → (words : List BitVector) → widths words ≡ replicate n w
+      → widths (written_all g values ws words) ≡ replicate n w
   all_written [] h words e = e
   all_written (p ∷ ws) h words e = all_written ws (λ q c. h q (later c)) (written g values p words) (one_written p (h p first) words e)
 
-pub memory_written : (g : Graph) (values : List BitVector) (m : Memory) (words new : List BitVector) → IsLawfulMemory g m → widths words ≡ memory_widths m → new ≡ written_all g values m.writes words → widths new ≡ widths words
+pub memory_written : (g : Graph) (values : List BitVector) (m : Memory) (words new : List BitVector) → IsLawfulMemory g m → widths words ≡ memory_widths m
+    → new ≡ written_all g values m.writes words → widths new ≡ widths words
 memory_written g values m words new l e is = ap widths is ∙ all_written g values m.size m.width m.writes (λ p c. (l.writes p c).value) words e ∙ sym e
 
 -- ---- the operands of a write port that a loop reads

@@ -66,7 +66,8 @@ module _ (g : Graph) (values : List BitVector) where
       go true = set_at 0 (number_at values w.addr.0) (number_at values w.addr.0) (operand g values w.value) words (omega arith)
       go false = kept 0 (numbers words)
 
-  pub words_written : (ws : List WritePort) (words : List BitVector) → map (λ (p : ℕ × ℕ). word_after (valuation values) [] ws p.0 p.1) (enumerate_from 0 (numbers words)) ≡ numbers (written_all g values ws words)
+  pub words_written : (ws : List WritePort) (words : List BitVector)
+      → map (λ (p : ℕ × ℕ). word_after (valuation values) [] ws p.0 p.1) (enumerate_from 0 (numbers words)) ≡ numbers (written_all g values ws words)
   words_written [] words = sym (kept 0 (numbers words))
   words_written (w ∷ ws) words =
       sym (composed (λ place old. word_after (valuation values) [] ws place old) (one w) 0 (numbers words))

@@ -32,7 +32,8 @@ results_named name g entries right = λ j i port. (ap (λ (o : Option ℕ). opti
 
 -- ---- the module
 
-pub module_by : (name : Named → List ℕ) (g circuit : Graph) (modules others : ℕ → List ℕ) (title : List ℕ) (inner nodes : List (ℕ × NodeRow)) (memories again : List Memory) (instances : List Instance) (outputs : ℕ → ℕ → List ℕ)
+pub module_by : (name : Named → List ℕ) (g circuit : Graph) (modules others : ℕ → List ℕ) (title : List ℕ) (inner nodes : List (ℕ × NodeRow)) (memories again : List Memory)
+    (instances : List Instance) (outputs : ℕ → ℕ → List ℕ)
     → circuit ≡ g → inner ≡ inner_nodes g → nodes ≡ numbered_nodes g → memories ≡ g.memories → again ≡ g.memories → instances ≡ g.instances → outputs ≡ output_name name g → others ≡ modules
     → lines_text (module_lines name g modules title) ≡ lines_text (header name circuit title)
     ++ (lines_text (map (declaration name) inner) ++ (lines_text (map (memory_declaration name) (enumerate_from 0 memories))

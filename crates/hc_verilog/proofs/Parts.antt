@@ -18,23 +18,28 @@ module _ (name : Named → List ℕ) where
   header_parts g title =
       let ins : List (List ℕ) = map (input_line name) (enumerate_from 0 g.ports.inputs) in
       let outs : List (List ℕ) = with_commas (map (output_line name) (zip g.outputs g.ports.outputs)) in
-      ap (λ t. ((codes "module " ++ title ++ codes " (") ++ 10 ∷ []) ++ (codes "  input clock,\n" ++ t)) (lines_append ins (outs ++ codes ");" ∷ []) ∙ ap (λ t. lines_text ins ++ t) (lines_append outs (codes ");" ∷ [])))
+      ap (λ t. ((codes "module " ++ title ++ codes " (") ++ 10 ∷ []) ++ (codes "  input clock,\n" ++ t))
+      (lines_append ins (outs ++ codes ");" ∷ []) ∙ ap (λ t. lines_text ins ++ t) (lines_append outs (codes ");" ∷ [])))
       ∙ joined (codes "module ") title (lines_text ins ++ (lines_text outs ++ codes ");\n"))
     where
       joined : (m t rest : List ℕ) → ((m ++ t ++ codes " (") ++ 10 ∷ []) ++ (codes "  input clock,\n" ++ rest) ≡ (m ++ t ++ codes " (\n  input clock,\n") ++ rest
-      joined m t rest = append_assoc (m ++ t ++ codes " (") (10 ∷ []) (codes "  input clock,\n" ++ rest) ∙ append_assoc (m ++ t) (codes " (") (codes "\n  input clock,\n" ++ rest) ∙ sym (append_assoc (m ++ t) (codes " (\n  input clock,\n") rest)
+      joined m t rest = append_assoc (m ++ t ++ codes " (") (10 ∷ []) (codes "  input clock,\n" ++ rest) ∙ append_assoc (m ++ t) (codes " (") (codes "\n  input clock,\n" ++ rest)
+          ∙ sym (append_assoc (m ++ t) (codes " (\n  input clock,\n") rest)
 
-  pub instance_parts : (title : List ℕ) (output : ℕ → List ℕ) (i : ℕ) (it : Instance) → lines_text (instance_lines name title output (i, it)) ≡ (codes "  " ++ title ++ codes " " ++ name (vertex (inst i)) ++ codes " (\n    .clock(clock),\n")
+  pub instance_parts : (title : List ℕ) (output : ℕ → List ℕ) (i : ℕ) (it : Instance)
+      → lines_text (instance_lines name title output (i, it)) ≡ (codes "  " ++ title ++ codes " " ++ name (vertex (inst i)) ++ codes " (\n    .clock(clock),\n")
       ++ (lines_text (map (connection_line name) (zip it.ports.inputs it.conns)) ++ (lines_text (with_commas (map (result_line output) (enumerate_from 0 it.ports.outputs))) ++ codes "  );\n"))
   unfolding instance_lines
   instance_parts title output i it =
       let ins : List (List ℕ) = map (connection_line name) (zip it.ports.inputs it.conns) in
       let outs : List (List ℕ) = with_commas (map (result_line output) (enumerate_from 0 it.ports.outputs)) in
-      ap (λ t. ((codes "  " ++ title ++ codes " " ++ name (vertex (inst i)) ++ codes " (") ++ 10 ∷ []) ++ (codes "    .clock(clock),\n" ++ t)) (lines_append ins (outs ++ codes "  );" ∷ []) ∙ ap (λ t. lines_text ins ++ t) (lines_append outs (codes "  );" ∷ [])))
+      ap (λ t. ((codes "  " ++ title ++ codes " " ++ name (vertex (inst i)) ++ codes " (") ++ 10 ∷ []) ++ (codes "    .clock(clock),\n" ++ t))
+      (lines_append ins (outs ++ codes "  );" ∷ []) ∙ ap (λ t. lines_text ins ++ t) (lines_append outs (codes "  );" ∷ [])))
       ∙ joined (codes "  " ++ title ++ codes " " ++ name (vertex (inst i))) (lines_text ins ++ (lines_text outs ++ codes "  );\n"))
     where
       joined : (t rest : List ℕ) → ((t ++ codes " (") ++ 10 ∷ []) ++ (codes "    .clock(clock),\n" ++ rest) ≡ (t ++ codes " (\n    .clock(clock),\n") ++ rest
-      joined t rest = append_assoc (t ++ codes " (") (10 ∷ []) (codes "    .clock(clock),\n" ++ rest) ∙ append_assoc t (codes " (") (codes "\n    .clock(clock),\n" ++ rest) ∙ sym (append_assoc t (codes " (\n    .clock(clock),\n") rest)
+      joined t rest = append_assoc (t ++ codes " (") (10 ∷ []) (codes "    .clock(clock),\n" ++ rest) ∙ append_assoc t (codes " (") (codes "\n    .clock(clock),\n" ++ rest)
+          ∙ sym (append_assoc t (codes " (\n    .clock(clock),\n") rest)
 
   writes_none : (m : ℕ) (ws : List WritePort) → length ws ≡ 0 → write_lines name m ws ≡ []
   writes_none m [] e = refl

@@ -54,7 +54,8 @@ module _ (t : Tree) (modules others : ℕ → List ℕ) (agrees : (i : ℕ) → 
       let comes : home.inst (into.inst (back.inst k)) ≡ back.inst k = ap number (f.one_to_one (inst (back.inst k)) s) in
       agrees (back.inst k) s ∙ ap others (sym comes ∙ ap home.inst stays)
 
-pub tree_text_single : (t : Tree) (modules others : ℕ → List ℕ) (title a b : List ℕ) → ((i : ℕ) → Reached (graph t) (inst i) → modules i ≡ others i) → IsTreeText t modules title a → IsTreeText t others title b → a ≡ b
+pub tree_text_single : (t : Tree) (modules others : ℕ → List ℕ) (title a b : List ℕ) → ((i : ℕ) → Reached (graph t) (inst i) → modules i ≡ others i)
+    → IsTreeText t modules title a → IsTreeText t others title b → a ≡ b
 tree_text_single t modules others title a b agrees (c, to, back, cc, e, x) (d, into, home, cd, f, y) =
     module_text_single c (λ i. modules (back.inst i)) (λ i. others (home.inst i)) title a b (one_instance t modules others agrees c d to back into home cc cd e f) x
     (subst (λ g. IsModuleText g (λ i. others (home.inst i)) title b) (one_circuit t modules others agrees c d to back into home cc cd e f) y)

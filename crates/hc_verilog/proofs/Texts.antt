@@ -45,7 +45,8 @@ module _ {T E : Type 0} (r : Result T E) (old new : List ℕ) where
   written_four a b c p q s t all parts first second third last =
       written_three b c (p ++ q) s t all (parts ∙ sym (append_assoc p q (s ++ t))) (second ∙ ap (λ l. l ++ q) first ∙ append_assoc old p q) third last
 
-  pub written_seven : (a b c d e f p q s t u v w all : List ℕ) → all ≡ p ++ (q ++ (s ++ (t ++ (u ++ (v ++ w))))) → a ≡ old ++ p → b ≡ a ++ q → c ≡ b ++ s → d ≡ c ++ t → e ≡ d ++ u → f ≡ e ++ v → OnOk r (new ≡ f ++ w) → OnOk r (new ≡ old ++ all)
+  pub written_seven : (a b c d e f p q s t u v w all : List ℕ) → all ≡ p ++ (q ++ (s ++ (t ++ (u ++ (v ++ w))))) → a ≡ old ++ p → b ≡ a ++ q → c ≡ b ++ s → d ≡ c ++ t
+      → e ≡ d ++ u → f ≡ e ++ v → OnOk r (new ≡ f ++ w) → OnOk r (new ≡ old ++ all)
   written_seven a b c d e f p q s t u v w all parts first second third fourth fifth sixth last =
       written_four d e f (p ++ (q ++ (s ++ t))) u v w all
       (parts ∙ sym (append_assoc p (q ++ (s ++ t)) (u ++ (v ++ w)) ∙ ap (λ l. p ++ l) (append_assoc q (s ++ t) (u ++ (v ++ w)) ∙ ap (λ l. q ++ l) (append_assoc s t (u ++ (v ++ w))))))
@@ -68,7 +69,8 @@ finished out rest all none before = sym (append-nil out) ∙ ap (λ t. out ++ t)
 
 module _ {X : Type 0} (f : ℕ × X → List (List ℕ)) (first k : ℕ) (xs : List X) where
   -- the lines for the elements from place k on
-  pub lines_cut : (x : X) → slice_get xs k ≡ Some x → lines_text (flat_map f (enumerate_from (first + k) (drop k xs))) ≡ lines_text (f (first + k, x)) ++ lines_text (flat_map f (enumerate_from (first + (k + 1)) (drop (k + 1) xs)))
+  pub lines_cut : (x : X) → slice_get xs k ≡ Some x
+      → lines_text (flat_map f (enumerate_from (first + k) (drop k xs))) ≡ lines_text (f (first + k, x)) ++ lines_text (flat_map f (enumerate_from (first + (k + 1)) (drop (k + 1) xs)))
   lines_cut x e =
       ap (λ l. lines_text (flat_map f (enumerate_from (first + k) l))) (drop_at xs k x e)
       ∙ lines_append (f (first + k, x)) (flat_map f (enumerate_from (first + k + 1) (drop (k + 1) xs)))
@@ -79,17 +81,21 @@ module _ {X : Type 0} (f : ℕ × X → List (List ℕ)) (first k : ℕ) (xs : L
 
 module _ {X : Type 0} (f : ℕ × X → List ℕ) (first k : ℕ) (xs : List X) where
   -- the same where each element has one line
-  pub line_each_cut : (x : X) → slice_get xs k ≡ Some x → lines_text (map f (enumerate_from (first + k) (drop k xs))) ≡ (f (first + k, x) ++ 10 ∷ []) ++ lines_text (map f (enumerate_from (first + (k + 1)) (drop (k + 1) xs)))
+  pub line_each_cut : (x : X) → slice_get xs k ≡ Some x
+      → lines_text (map f (enumerate_from (first + k) (drop k xs))) ≡ (f (first + k, x) ++ 10 ∷ []) ++ lines_text (map f (enumerate_from (first + (k + 1)) (drop (k + 1) xs)))
   line_each_cut x e =
       ap (λ l. lines_text (map f (enumerate_from (first + k) l))) (drop_at xs k x e)
       ∙ ap (λ n. (f (first + k, x) ++ 10 ∷ []) ++ lines_text (map f (enumerate_from n (drop (k + 1) xs)))) (let s : first + k + 1 ≡ first + (k + 1) = omega arith in s)
 
   -- the same where some elements have none
-  pub line_some_cut : (test : ℕ × X → Bool) (x : X) → slice_get xs k ≡ Some x → lines_text (map f (filter test (enumerate_from (first + k) (drop k xs)))) ≡ (if test (first + k, x) then (f (first + k, x) ++ 10 ∷ []) else []) ++ lines_text (map f (filter test (enumerate_from (first + (k + 1)) (drop (k + 1) xs))))
+  pub line_some_cut : (test : ℕ × X → Bool) (x : X) → slice_get xs k ≡ Some x
+      → lines_text (map f (filter test (enumerate_from (first + k) (drop k xs)))) ≡ (if test (first + k, x) then (f (first + k, x) ++ 10 ∷ []) else []) ++ lines_text
+      (map f (filter test (enumerate_from (first + (k + 1)) (drop (k + 1) xs))))
   line_some_cut test x e =
       ap (λ l. lines_text (map f (filter test (enumerate_from (first + k) l)))) (drop_at xs k x e)
       ∙ by (test (first + k, x)) (filter test (enumerate_from (first + k + 1) (drop (k + 1) xs)))
-      ∙ ap (λ n. (if test (first + k, x) then (f (first + k, x) ++ 10 ∷ []) else []) ++ lines_text (map f (filter test (enumerate_from n (drop (k + 1) xs))))) (let s : first + k + 1 ≡ first + (k + 1) = omega arith in s)
+      ∙ ap (λ n. (if test (first + k, x) then (f (first + k, x) ++ 10 ∷ []) else []) ++ lines_text (map f (filter test (enumerate_from n (drop (k + 1) xs)))))
+      (let s : first + k + 1 ≡ first + (k + 1) = omega arith in s)
     where
       by : (b : Bool) (rest : List (ℕ × X)) → lines_text (map f (cond b ((first + k, x) ∷ rest) rest)) ≡ (if b then (f (first + k, x) ++ 10 ∷ []) else []) ++ lines_text (map f rest)
       by true rest = refl
@@ -135,7 +141,8 @@ module _ {X : Type 0} (f : X → List ℕ) (xs : List X) (k : ℕ) (x : X) (more
       ∙ ap (λ b. (f x ++ (if b then codes ",\n" else codes "\n")) ++ lines_text (with_commas (map f (drop (k + 1) xs)))) (more_left f k xs ∙ sym more_is)
 
 module _ (name : Named → List ℕ) (ws : ℕ) (sel : NodeId) where
-  mux_cut : (k : ℕ) (c : NodeId) (cs : List NodeId) → mux_text name ws sel k (c ∷ cs) ≡ (if nat_lt 0 (length cs) then tested_case name ws sel k c else name_of_id name c) ++ mux_text name ws sel (k + 1) cs
+  mux_cut : (k : ℕ) (c : NodeId) (cs : List NodeId)
+      → mux_text name ws sel k (c ∷ cs) ≡ (if nat_lt 0 (length cs) then tested_case name ws sel k c else name_of_id name c) ++ mux_text name ws sel (k + 1) cs
   mux_cut k c [] = sym (append-nil (name_of_id name c))
   mux_cut k c (d ∷ cs) =
       ap (λ n. tested_case name ws sel k c ++ mux_text name ws sel n (d ∷ cs)) (let s : suc k ≡ k + 1 = omega arith in s)
@@ -146,7 +153,8 @@ module _ (name : Named → List ℕ) (ws : ℕ) (sel : NodeId) where
   case_cut cs k c more at more_is =
       ap (mux_text name ws sel k) (drop_at cs k c at)
       ∙ mux_cut k c (drop (k + 1) cs)
-      ∙ ap (λ b. (if b then tested_case name ws sel k c else name_of_id name c) ++ mux_text name ws sel (k + 1) (drop (k + 1) cs)) (ap (nat_lt 0) (length-drop (k + 1) cs) ∙ sym (left_over (k + 1) (length cs)) ∙ sym more_is)
+      ∙ ap (λ b. (if b then tested_case name ws sel k c else name_of_id name c) ++ mux_text name ws sel (k + 1) (drop (k + 1) cs))
+      (ap (nat_lt 0) (length-drop (k + 1) cs) ∙ sym (left_over (k + 1) (length cs)) ∙ sym more_is)
 
 -- more words than a size can have
 pub many_words : (w size : ℕ) → 32 ≤ w → size < 2 ^ 32 → false ≡ nat_le (2 ^ w) size

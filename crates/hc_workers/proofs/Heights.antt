@@ -78,7 +78,8 @@ place_is height s (row ∷ rows) k h = by (row.height == height) refl (place_is 
     cases t more (inl here) = (let e : k ≡ s + 0 = omega (arith, here) in record { index = zero; row = row; at = e; there = refl; has = eqb-true row.height height t })
     cases t more (inr m) = rest (more m)
 
-    by : (b : Bool) → (row.height == height) ≡ b → (Has (places_from height (s + 1) rows) k → RowOf height (s + 1) rows k) → Has (if b then s ∷ places_from height (s + 1) rows else places_from height (s + 1) rows) k → RowOf height s (row ∷ rows) k
+    by : (b : Bool) → (row.height == height) ≡ b → (Has (places_from height (s + 1) rows) k → RowOf height (s + 1) rows k)
+        → Has (if b then s ∷ places_from height (s + 1) rows else places_from height (s + 1) rows) k → RowOf height s (row ∷ rows) k
     by true t more m = cases t more (first_or_later m)
     by false t more m = rest (more m)
 
@@ -121,7 +122,8 @@ pub row_below : (height : ℕ) (rows : List PlanRow) (k : ℕ) → Has (places_t
 row_below zero rows k h = elim h [ ]
 row_below (suc height) rows k h = by (row_below height rows k) (has_cases (places_to height rows) (places_from (suc height) 0 rows) k h)
   where
-    by : (Has (places_to height rows) k → (row : PlanRow) × (slice_get rows k ≡ Some row) × (row.height ≤ height)) → Has (places_to height rows) k ⊎ Has (places_from (suc height) 0 rows) k → (row : PlanRow) × (slice_get rows k ≡ Some row) × (row.height ≤ suc height)
+    by : (Has (places_to height rows) k → (row : PlanRow) × (slice_get rows k ≡ Some row) × (row.height ≤ height))
+        → Has (places_to height rows) k ⊎ Has (places_from (suc height) 0 rows) k → (row : PlanRow) × (slice_get rows k ≡ Some row) × (row.height ≤ suc height)
     by below (inl l) = (let r : _ = below l in let e : r.0.height ≤ height = r.2 in (r.0, r.1, omega (arith, e)))
     by below (inr m) = (let r : _ = row_of_place (suc height) rows k m in let e : r.0.height ≡ suc height = r.2 in (r.0, r.1, omega (arith, e)))
 
@@ -173,7 +175,8 @@ knows_low v w rows outs height done k x at =
     by row there (inl l) = (let e : Some (Some x) ≡ Some None = sym at ∙ done.high k row there l in absurd cc)
     by row there (inr l) = known row x (done.low k row (Some x) there at l)
 
-all_at : (K : EntryId → FormView → Type 0) (rows : List PlanRow) (outs : List Outcome) (places : List ℕ) (list : List Outcome) → AreOutcomesAt K rows outs places list → AllAt (λ k o. (row : PlanRow) → slice_get rows k ≡ Some row → IsOutcome K outs row o) places list
+all_at : (K : EntryId → FormView → Type 0) (rows : List PlanRow) (outs : List Outcome) (places : List ℕ) (list : List Outcome) → AreOutcomesAt K rows outs places list
+    → AllAt (λ k o. (row : PlanRow) → slice_get rows k ≡ Some row → IsOutcome K outs row o) places list
 all_at K rows outs [] [] are = are
 all_at K rows outs [] (o ∷ list) are = are
 all_at K rows outs (k ∷ places) [] are = are
@@ -190,7 +193,8 @@ map_same f g [] same = refl
 map_same {X} f g (k ∷ ks) same = ap₂ (λ (x : X) (l : List X). x ∷ l) (same k first) (map_same f g ks (λ j m. same j (later m)))
 
 -- one level more is finished
-module _ (v x w : View Entered) (rows : List PlanRow) (old list : List Outcome) (height : ℕ) (heights : AreByHeight rows) (done : AreFinishedTo v x rows old height) (level : AreFinishedAt x w rows old (places_from (suc height) 0 rows) list) (keeps : Keeps x w) where
+module _ (v x w : View Entered) (rows : List PlanRow) (old list : List Outcome) (height : ℕ) (heights : AreByHeight rows) (done : AreFinishedTo v x rows old height)
+    (level : AreFinishedAt x w rows old (places_from (suc height) 0 rows) list) (keeps : Keeps x w) where
   abbrev spots : List ℕ
   spots = places_from (suc height) 0 rows
 
@@ -217,7 +221,8 @@ module _ (v x w : View Entered) (rows : List PlanRow) (old list : List Outcome) 
       by : (height < row.height) ⊎ (row.height ≤ height) → IsOutcome (KnowsForm w) after row o
       by (inl above) =
           outcome_stays (KnowsForm w) (KnowsForm w) (λ id form e. e) old after row o (kids_same k row at l)
-          (written_each (λ j p. (r : PlanRow) → slice_get rows j ≡ Some r → IsOutcome (KnowsForm w) old r p) old 0 spots list (places_rise (suc height) 0 rows) within (all_at (KnowsForm w) rows old spots list level.outcomes) k o (place_of_row (suc height) rows k row at (omega (arith, above, l))) out row at)
+          (written_each (λ j p. (r : PlanRow) → slice_get rows j ≡ Some r → IsOutcome (KnowsForm w) old r p) old 0 spots list (places_rise (suc height) 0 rows) within
+          (all_at (KnowsForm w) rows old spots list level.outcomes) k o (place_of_row (suc height) rows k row at (omega (arith, above, l))) out row at)
       by (inr below) =
           outcome_stays (KnowsForm x) (KnowsForm w) (form_still x w keeps) old after row o (kids_same k row at l)
           (done.low k row o at (sym (same_at k row at (λ e. omega (arith, e, below))) ∙ out) below)
@@ -225,7 +230,8 @@ module _ (v x w : View Entered) (rows : List PlanRow) (old list : List Outcome) 
   turns_now : AreTurnsOf w (map (outcome_at after) (places_to (suc height) rows)) (done.owns.places ++ level.owns.places)
   turns_now =
       let before : map (outcome_at after) (places_to height rows) ≡ map (outcome_at old) (places_to height rows) =
-      map_same (outcome_at after) (outcome_at old) (places_to height rows) (λ k h. (let r : _ = row_below height rows k h in let l : r.0.height ≤ height = r.2 in ap outcome_in (same_at k r.0 r.1 (λ e. omega (arith, e, l))))) in
+      map_same (outcome_at after) (outcome_at old) (places_to height rows)
+      (λ k h. (let r : _ = row_below height rows k h in let l : r.0.height ≤ height = r.2 in ap outcome_in (same_at k r.0 r.1 (λ e. omega (arith, e, l))))) in
       let now : map (outcome_at after) spots ≡ list = written_at old 0 spots list (places_rise (suc height) 0 rows) within (as_many (KnowsForm w) rows old spots list level.outcomes) in
       let both : map (outcome_at after) (places_to height rows ++ spots) ≡ map (outcome_at old) (places_to height rows) ++ list =
       map-append (outcome_at after) (places_to height rows) spots ∙ ap₂ (λ (a b : List Outcome). a ++ b) before now in
@@ -236,16 +242,25 @@ module _ (v x w : View Entered) (rows : List PlanRow) (old list : List Outcome) 
     many = written_length old spots list ∙ done.many;
     low = low_now;
     high = λ k row at l. same_at k row at (λ e. omega (arith, e, l)) ∙ done.high k row at (omega (arith, l));
-    owns = record { places = done.owns.places ++ level.owns.places; mine = level.owns.mine ∙ ap (λ l. l ++ level.owns.places) done.owns.mine ∙ append_assoc v.mine done.owns.places level.owns.places; turns = turns_now };
+    owns = record {
+      places = done.owns.places ++ level.owns.places;
+      mine = level.owns.mine ∙ ap (λ l. l ++ level.owns.places) done.owns.mine
+          ∙ append_assoc v.mine done.owns.places level.owns.places;
+      turns = turns_now;
+    };
   }
 
 -- the next level is finished
-pub next_level : (v x w : View Entered) (rows : List PlanRow) (old new : List (Option (EntryId × Paths))) (height : ℕ) → AreByHeight rows → AreFinishedTo v x rows (outs_of old) height → IsLevelDone x w rows (height + 1) old new → Keeps x w → AreFinishedTo v w rows (outs_of new) (height + 1)
+pub next_level : (v x w : View Entered) (rows : List PlanRow) (old new : List (Option (EntryId × Paths))) (height : ℕ) → AreByHeight rows
+    → AreFinishedTo v x rows (outs_of old) height → IsLevelDone x w rows (height + 1) old new → Keeps x w → AreFinishedTo v w rows (outs_of new) (height + 1)
 next_level v x w rows old new height heights done level keeps =
     let one : height + 1 ≡ suc height = omega arith in
-    let finished : AreFinishedAt x w rows (outs_of old) (places_from (suc height) 0 rows) (outs_of level.list) = subst (λ h. AreFinishedAt x w rows (outs_of old) (places_from h 0 rows) (outs_of level.list)) one level.finished in
-    let is : outs_of new ≡ written (outs_of old) (places_from (suc height) 0 rows) (outs_of level.list) = ap outs_of level.is ∙ written_outs old (places_from (height + 1) 0 rows) level.list ∙ ap (λ h. written (outs_of old) (places_from h 0 rows) (outs_of level.list)) one in
-    subst (λ h. AreFinishedTo v w rows (outs_of new) h) (sym one) (subst (λ l. AreFinishedTo v w rows l (suc height)) (sym is) (level_done v x w rows (outs_of old) (outs_of level.list) height heights done finished keeps))
+    let finished : AreFinishedAt x w rows (outs_of old) (places_from (suc height) 0 rows) (outs_of level.list) = subst
+    (λ h. AreFinishedAt x w rows (outs_of old) (places_from h 0 rows) (outs_of level.list)) one level.finished in
+    let is : outs_of new ≡ written (outs_of old) (places_from (suc height) 0 rows) (outs_of level.list) = ap outs_of level.is
+    ∙ written_outs old (places_from (height + 1) 0 rows) level.list ∙ ap (λ h. written (outs_of old) (places_from h 0 rows) (outs_of level.list)) one in
+    subst (λ h. AreFinishedTo v w rows (outs_of new) h) (sym one)
+    (subst (λ l. AreFinishedTo v w rows l (suc height)) (sym is) (level_done v x w rows (outs_of old) (outs_of level.list) height heights done finished keeps))
 
 -- ---- the steps of the loops
 
@@ -254,8 +269,10 @@ only first = refl
 only (later h) = elim h [ ]
 
 -- one row more is no higher
-pub highest_more : (rows : List PlanRow) (i : ℕ) (row : PlanRow) (old new : ℕ) → i < length rows → row ≡ get_or rows i row → IsHighest (take i rows) old → old ≤ new → row.height ≤ new → IsHighest (take (i + 1) rows) new
-highest_more rows i row old new l is highest up here k r at = by (has_cases (take i rows) (get_or rows i row ∷ []) r (has_at (take i rows ++ get_or rows i row ∷ []) k r (ap (λ xs. slice_get xs k) (sym (take_more rows i row l)) ∙ at)))
+pub highest_more : (rows : List PlanRow) (i : ℕ) (row : PlanRow) (old new : ℕ) → i < length rows → row ≡ get_or rows i row → IsHighest (take i rows) old → old ≤ new
+    → row.height ≤ new → IsHighest (take (i + 1) rows) new
+highest_more rows i row old new l is highest up here k r at = by
+    (has_cases (take i rows) (get_or rows i row ∷ []) r (has_at (take i rows ++ get_or rows i row ∷ []) k r (ap (λ xs. slice_get xs k) (sym (take_more rows i row l)) ∙ at)))
   where
     by : Has (take i rows) r ⊎ Has (get_or rows i row ∷ []) r → r.height ≤ new
     by (inl h) = (let at : _ = index_of (take i rows) r h in let m : r.height ≤ old = highest at.0 r at.1 in omega (arith, m, up))
@@ -281,7 +298,8 @@ outs_length [] = refl
 outs_length (x ∷ xs) = ap suc (outs_length xs)
 
 -- as many outcomes as places
-pub level_many : (v w : View Entered) (rows : List PlanRow) (outs : List Outcome) (places : List ℕ) (list : List (Option (EntryId × Paths))) → AreFinishedAt v w rows outs places (outs_of list) → length list ≡ length places
+pub level_many : (v w : View Entered) (rows : List PlanRow) (outs : List Outcome) (places : List ℕ) (list : List (Option (EntryId × Paths)))
+    → AreFinishedAt v w rows outs places (outs_of list) → length list ≡ length places
 level_many v w rows outs places list f = sym (outs_length list) ∙ as_many (KnowsForm w) rows outs places (outs_of list) f.outcomes
 
 -- no outcome before the first level
@@ -293,10 +311,13 @@ none_before v rows outs heights is = subst (λ l. AreFinishedTo v v rows l 0) (s
     none_outs (suc n) = ap (λ (l : List Outcome). None ∷ l) (none_outs n)
 
 -- what a level leaves in the list
-pub level_back : (v x w : View Entered) (rows : List PlanRow) (old new : List (Option (EntryId × Paths))) (n height : ℕ) → AreByHeight rows → n ≡ length old → AreFinishedTo v x rows (outs_of old) height → IsLevelDone x w rows (height + 1) old new → Keeps x w → AreFinishedTo v w rows (outs_of (take n (new ++ drop (length new) old))) (height + 1)
+pub level_back : (v x w : View Entered) (rows : List PlanRow) (old new : List (Option (EntryId × Paths))) (n height : ℕ) → AreByHeight rows → n ≡ length old
+    → AreFinishedTo v x rows (outs_of old) height → IsLevelDone x w rows (height + 1) old new → Keeps x w
+    → AreFinishedTo v w rows (outs_of (take n (new ++ drop (length new) old))) (height + 1)
 level_back v x w rows old new n height heights many done level keeps =
     let e : length new ≡ length old = ap length level.is ∙ written_length old (places_from (height + 1) 0 rows) level.list in
-    subst (λ l. AreFinishedTo v w rows (outs_of l) (height + 1)) (sym (ap (λ m. take m (new ++ drop (length new) old)) many ∙ whole_back new old e)) (next_level v x w rows old new height heights done level keeps)
+    subst (λ l. AreFinishedTo v w rows (outs_of l) (height + 1)) (sym (ap (λ m. take m (new ++ drop (length new) old)) many ∙ whole_back new old e))
+    (next_level v x w rows old new height heights done level keeps)
 
 -- the rows up to a height that none passes have their outcomes
 pub all_low : (v w : View Entered) (rows : List PlanRow) (outs : List Outcome) (height : ℕ) → IsHighest rows height → AreFinishedTo v w rows outs height → AreOutcomes (KnowsForm w) rows outs

@@ -69,7 +69,8 @@ module _ {S : Type 0} {G : Ghosts S Entered} (lock : TurnLock S Entered) where
         }
 
   -- the joined pass knows what the first knew
-  pub is_joined : (one two a b after : Pass S Entered G) → JoinsKnow → ComesBack lock one a → ComesBack lock two b → known after ≡ joined (known a) (known b) → IsOf lock after → IsPrefix (seen a) (seen after) → IsJoined lock one two after
+  pub is_joined : (one two a b after : Pass S Entered G) → JoinsKnow → ComesBack lock one a → ComesBack lock two b → known after ≡ joined (known a) (known b)
+      → IsOf lock after → IsPrefix (seen a) (seen after) → IsJoined lock one two after
   is_joined one two a b after know left right is is_of begins =
       let shares : share after ≡ share a + share b = ap (λ (v : View Entered). v.share) is in
       let p : share a ≡ share one = left.share in
@@ -97,7 +98,8 @@ module _ {S : Type 0} {G : Ghosts S Entered} (lock : TurnLock S Entered) where
       }
 
 -- what both halves finished
-pub halves_finish : {E Z : Type 0} (v u x y w : View Entered) (rows : List PlanRow) (outs : List Outcome) (front back : List ℕ) (a b r : Result (Vec (Option (EntryId × Paths)) Z) E) → JoinsKnow → w ≡ joined x y → u.mine ≡ []
+pub halves_finish : {E Z : Type 0} (v u x y w : View Entered) (rows : List PlanRow) (outs : List Outcome) (front back : List ℕ) (a b r : Result (Vec (Option (EntryId × Paths)) Z) E)
+    → JoinsKnow → w ≡ joined x y → u.mine ≡ []
     → IfOk a (λ list. AreFinishedAt v x rows outs front (outs_of list.items)) → IfOk b (λ list. AreFinishedAt u y rows outs back (outs_of list.items))
     → IfOk r (λ list. IsOkAnd a (λ p. IsOkAnd b (λ q. list.items ≡ p.items ++ q.items))) → IfOk r (λ list. AreFinishedAt v w rows outs (front ++ back) (outs_of list.items))
 halves_finish v u x y w rows outs front back a b (Err e) know is none one two both = tt

@@ -88,7 +88,8 @@ kids_known v outs row form masks knows ready id m =
 -- ---- one row
 
 -- a row whose form was inserted is finished
-pub is_inserted : (v w : View Entered) (outs : List Outcome) (row : PlanRow) (form : FormView) (masks : List ℕ) (id : EntryId) → IsReady outs row form masks → OwnsTurn v w id form → FinishesRow v w outs row (Some (id, masks))
+pub is_inserted : (v w : View Entered) (outs : List Outcome) (row : PlanRow) (form : FormView) (masks : List ℕ) (id : EntryId) → IsReady outs row form masks
+    → OwnsTurn v w id form → FinishesRow v w outs row (Some (id, masks))
 is_inserted v w outs row form masks id r own = record {
   outcome = outcome.finished r.kids id masks form r.done (own.0, own.1, own.3, own.4, own.5) r.canon r.right r.free;
   owns = record { places = own.0 ∷ []; mine = own.2; turns = finished own.1 own.3 own.4 none_left };
@@ -107,18 +108,22 @@ is_passed_over v outs row none = no_turn v outs row (passed_over none)
 -- ---- rows one after another
 
 -- An outcome stays as the pass learns more, where what is done of the children is the same.
-pub outcome_stays : (K L : EntryId → FormView → Type 0) → ((id : EntryId) (form : FormView) → K id form → L id form) → (outs more : List Outcome) (row : PlanRow) (o : Outcome) → all_done more row.kids ≡ all_done outs row.kids → IsOutcome K outs row o → IsOutcome L more row o
+pub outcome_stays : (K L : EntryId → FormView → Type 0) → ((id : EntryId) (form : FormView) → K id form → L id form)
+    → (outs more : List Outcome) (row : PlanRow) (o : Outcome) → all_done more row.kids ≡ all_done outs row.kids → IsOutcome K outs row o → IsOutcome L more row o
 outcome_stays K L kept outs more row o same (outcome.finished kids id masks form all known canon right free) = outcome.finished kids id masks form (same ∙ all) (kept id form known) canon right free
 outcome_stays K L kept outs more row o same (looped kids all loop) = looped kids (same ∙ all) loop
 outcome_stays K L kept outs more row o same (passed_over none) = passed_over (same ∙ none)
 
-outcomes_stay : (v w : View Entered) (rows : List PlanRow) (outs : List Outcome) → Keeps v w → (places : List ℕ) (list : List Outcome) → AreOutcomesAt (KnowsForm v) rows outs places list → AreOutcomesAt (KnowsForm w) rows outs places list
+outcomes_stay : (v w : View Entered) (rows : List PlanRow) (outs : List Outcome) → Keeps v w → (places : List ℕ) (list : List Outcome)
+    → AreOutcomesAt (KnowsForm v) rows outs places list → AreOutcomesAt (KnowsForm w) rows outs places list
 outcomes_stay v w rows outs keeps [] [] are = tt
 outcomes_stay v w rows outs keeps [] (o ∷ list) are = are
 outcomes_stay v w rows outs keeps (k ∷ places) [] are = are
-outcomes_stay v w rows outs keeps (k ∷ places) (o ∷ list) are = (λ row at. outcome_stays (KnowsForm v) (KnowsForm w) (form_still v w keeps) outs outs row o refl (are.0 row at), outcomes_stay v w rows outs keeps places list are.1)
+outcomes_stay v w rows outs keeps (k ∷ places) (o ∷ list) are =
+    (λ row at. outcome_stays (KnowsForm v) (KnowsForm w) (form_still v w keeps) outs outs row o refl (are.0 row at), outcomes_stay v w rows outs keeps places list are.1)
 
-outcomes_both : (K : EntryId → FormView → Type 0) (rows : List PlanRow) (outs : List Outcome) (front back : List ℕ) (a b : List Outcome) → AreOutcomesAt K rows outs front a → AreOutcomesAt K rows outs back b → AreOutcomesAt K rows outs (front ++ back) (a ++ b)
+outcomes_both : (K : EntryId → FormView → Type 0) (rows : List PlanRow) (outs : List Outcome) (front back : List ℕ) (a b : List Outcome)
+    → AreOutcomesAt K rows outs front a → AreOutcomesAt K rows outs back b → AreOutcomesAt K rows outs (front ++ back) (a ++ b)
 outcomes_both K rows outs [] back [] b x y = y
 outcomes_both K rows outs [] back (o ∷ a) b x y = absurd x
 outcomes_both K rows outs (k ∷ front) back [] b x y = absurd x
@@ -136,7 +141,8 @@ turns_both w (unfinished rest) y = unfinished (turns_both w rest y)
 turns_both w (finished t knows e rest) y = finished t knows e (turns_both w rest y)
 
 -- Two parts of the rows are finished, each by what the pass knew then; now it knows what it knew after each, and owns the turns of both.
-pub both_finished : (v u x y w : View Entered) (rows : List PlanRow) (outs : List Outcome) (front back : List ℕ) (a b : List Outcome) → AreFinishedAt v x rows outs front a → AreFinishedAt u y rows outs back b → Keeps x w → Keeps y w
+pub both_finished : (v u x y w : View Entered) (rows : List PlanRow) (outs : List Outcome) (front back : List ℕ) (a b : List Outcome)
+    → AreFinishedAt v x rows outs front a → AreFinishedAt u y rows outs back b → Keeps x w → Keeps y w
     → ((ps qs : List ℕ) → x.mine ≡ v.mine ++ ps → y.mine ≡ u.mine ++ qs → w.mine ≡ v.mine ++ (ps ++ qs)) → AreFinishedAt v w rows outs (front ++ back) (a ++ b)
 both_finished v u x y w rows outs front back a b one two left right mine = record {
   outcomes = outcomes_both (KnowsForm w) rows outs front back a b (outcomes_stay x w rows outs left front a one.outcomes) (outcomes_stay y w rows outs right back b two.outcomes);
@@ -152,7 +158,8 @@ pub none_finished : (v : View Entered) (rows : List PlanRow) (outs : List Outcom
 none_finished v rows outs = record { outcomes = tt; owns = record { places = []; mine = sym (append-nil v.mine); turns = none_left } }
 
 -- one part after another, by one pass
-pub then_finished : (v x w : View Entered) (rows : List PlanRow) (outs : List Outcome) (front back : List ℕ) (a b : List Outcome) → AreFinishedAt v x rows outs front a → AreFinishedAt x w rows outs back b → Keeps x w → AreFinishedAt v w rows outs (front ++ back) (a ++ b)
+pub then_finished : (v x w : View Entered) (rows : List PlanRow) (outs : List Outcome) (front back : List ℕ) (a b : List Outcome) → AreFinishedAt v x rows outs front a
+    → AreFinishedAt x w rows outs back b → Keeps x w → AreFinishedAt v w rows outs (front ++ back) (a ++ b)
 then_finished v x w rows outs front back a b one two keeps =
     both_finished v x x w w rows outs front back a b one two keeps (λ p t k. k)
     (λ ps qs m n. n ∙ ap (λ l. l ++ qs) m ∙ append_assoc v.mine ps qs)
@@ -169,14 +176,17 @@ ready_at rows place row ready at =
     subst (λ (x : PlanRow). IsReadyRow x) same r.2
 
 -- one row is finished
-pub one_finished : (v w : View Entered) (rows : List PlanRow) (outs : List Outcome) (place : ℕ) (row : PlanRow) (old new : List (Option (EntryId × Paths))) (out : Option (EntryId × Paths)) → slice_get rows place ≡ Some row → FinishesRow v w outs row (outcome_of out) → new ≡ old ++ out ∷ [] → FinishesOne v w rows outs place old new
+pub one_finished : (v w : View Entered) (rows : List PlanRow) (outs : List Outcome) (place : ℕ) (row : PlanRow) (old new : List (Option (EntryId × Paths))) (out : Option (EntryId × Paths))
+    → slice_get rows place ≡ Some row → FinishesRow v w outs row (outcome_of out) → new ≡ old ++ out ∷ [] → FinishesOne v w rows outs place old new
 one_finished v w rows outs place row old new out at f is = record { out = out; is = is; finished = record { outcomes = (here, tt); owns = f.owns } }
   where
     here : (r : PlanRow) → slice_get rows place ≡ Some r → IsOutcome (KnowsForm w) outs r (outcome_of out)
     here r there = (let same : row ≡ r = ap (λ o. unwrap_or o row) (sym at ∙ there) in subst (λ (x : PlanRow). IsOutcome (KnowsForm w) outs x (outcome_of out)) same f.outcome)
 
 -- one row more is finished
-pub one_more : (v x w : View Entered) (rows : List PlanRow) (outs : List Outcome) (front : List ℕ) (place : ℕ) (old new : List (Option (EntryId × Paths))) → AreFinishedAt v x rows outs front (outs_of old) → FinishesOne x w rows outs place old new → Keeps x w → AreFinishedAt v w rows outs (front ++ place ∷ []) (outs_of new)
+pub one_more : (v x w : View Entered) (rows : List PlanRow) (outs : List Outcome) (front : List ℕ) (place : ℕ) (old new : List (Option (EntryId × Paths)))
+    → AreFinishedAt v x rows outs front (outs_of old) → FinishesOne x w rows outs place old new → Keeps x w
+    → AreFinishedAt v w rows outs (front ++ place ∷ []) (outs_of new)
 one_more v x w rows outs front place old new are one keeps =
     subst (λ l. AreFinishedAt v w rows outs (front ++ place ∷ []) l) (sym (outs_more old one.out) ∙ ap outs_of (sym one.is))
     (then_finished v x w rows outs front (place ∷ []) (outs_of old) (outcome_of one.out ∷ []) are one.finished keeps)

@@ -33,7 +33,8 @@ abbrev pub HaveHeights : Design → Type 0
 HaveHeights d = (rows : List PlanRow) (stop : Option Fault) (k : ℕ) (row : PlanRow) → IsPlanOf d rows stop → slice_get rows k ≡ Some row → 1 ≤ row.height
 
 abbrev pub HaveLowerKids : Design → Type 0
-HaveLowerKids d = (rows : List PlanRow) (stop : Option Fault) (k j : ℕ) (row kid : PlanRow) → IsPlanOf d rows stop → slice_get rows k ≡ Some row → Has row.kids j → slice_get rows j ≡ Some kid → kid.height < row.height
+HaveLowerKids d = (rows : List PlanRow) (stop : Option Fault) (k j : ℕ) (row kid : PlanRow) → IsPlanOf d rows stop → slice_get rows k ≡ Some row → Has row.kids j
+    → slice_get rows j ≡ Some kid → kid.height < row.height
 
 abbrev pub HaveChildren : Design → Type 0
 HaveChildren d = (c : CircuitText) (args : List ℤ) (path : Path) (b : Body) → BodyOf d c args path (Ok b) → AreChildrenOf d b
@@ -61,7 +62,8 @@ by_height d rows stop children heights lower plan = record {
 }
 
 -- the rows up to the highest are all rows
-pub all_finished : (v w : View Entered) (rows : List PlanRow) (outs : List Outcome) (height : ℕ) → AreByHeight rows → IsHighest rows height → AreFinishedTo v w rows outs height → AreAllFinished v w rows outs
+pub all_finished : (v w : View Entered) (rows : List PlanRow) (outs : List Outcome) (height : ℕ) → AreByHeight rows → IsHighest rows height
+    → AreFinishedTo v w rows outs height → AreAllFinished v w rows outs
 all_finished v w rows outs height heights highest done = record {
   outcomes = all_low v w rows outs height highest done;
   order = places_to height rows;
@@ -71,6 +73,9 @@ all_finished v w rows outs height heights highest done = record {
 }
 
 -- what became of the rows of the plan, unless memory ran out
-pub plan_finished : {E Z : Type 0} (v w : View Entered) (rows all : List PlanRow) (height : ℕ) (r : Result (Vec (Option (EntryId × Paths)) Z) E) → rows ≡ all → AreByHeight rows → IsHighest rows height → IfOk r (λ outs. AreFinishedTo v w rows (outs_of outs.items) height) → IfOk r (λ outs. AreAllFinished v w all (outs_of outs.items))
+pub plan_finished : {E Z : Type 0} (v w : View Entered) (rows all : List PlanRow) (height : ℕ) (r : Result (Vec (Option (EntryId × Paths)) Z) E) → rows ≡ all
+    → AreByHeight rows → IsHighest rows height → IfOk r (λ outs. AreFinishedTo v w rows (outs_of outs.items) height)
+    → IfOk r (λ outs. AreAllFinished v w all (outs_of outs.items))
 plan_finished v w rows all height (Err e) same heights highest done = tt
-plan_finished v w rows all height (Ok outs) same heights highest done = subst (λ l. AreAllFinished v w l (outs_of outs.items)) same (all_finished v w rows (outs_of outs.items) height heights highest done)
+plan_finished v w rows all height (Ok outs) same heights highest done = subst (λ l. AreAllFinished v w l (outs_of outs.items)) same
+    (all_finished v w rows (outs_of outs.items) height heights highest done)

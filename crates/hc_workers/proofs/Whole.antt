@@ -46,7 +46,8 @@ top_fails d (refused.Fault f) e = ([], no_call f e)
 top_fails d refused.NoMemory e = tt
 
 -- the outcomes, by another word for forms
-outcomes_by : (K L : EntryId → FormView → Type 0) → ((id : EntryId) (form : FormView) → K id form → L id form) → (rows : List PlanRow) (outs : List Outcome) → AreOutcomes K rows outs → AreOutcomes L rows outs
+outcomes_by : (K L : EntryId → FormView → Type 0) → ((id : EntryId) (form : FormView) → K id form → L id form) → (rows : List PlanRow) (outs : List Outcome)
+    → AreOutcomes K rows outs → AreOutcomes L rows outs
 outcomes_by K L kept rows outs are = record { many = are.many; each = λ k row o at out. outcome_stays K L kept outs outs row o refl (are.each k row o at out) }
 
 -- the outcomes, whatever the forms
@@ -94,16 +95,19 @@ module _ (w : View Entered) (outs : List Outcome) (call_at : ℕ → ElaboratedC
   turns_many [] ps turns done = ap length (no_turns w [] ps turns refl)
   turns_many (k ∷ ks) ps turns done =
       let x : (x : Done) × (outcome_at outs k ≡ Some x) = done k first in
-      let n : NextTurn w x.0 (map (outcome_at outs) ks) ps = next_turn w x.0 (map (outcome_at outs) ks) (outcome_at outs k ∷ map (outcome_at outs) ks) ps turns (ap (λ o. o ∷ map (outcome_at outs) ks) x.1) in
+      let n : NextTurn w x.0 (map (outcome_at outs) ks) ps = next_turn w x.0 (map (outcome_at outs) ks) (outcome_at outs k ∷ map (outcome_at outs) ks) ps turns
+      (ap (λ o. o ∷ map (outcome_at outs) ks) x.1) in
       ap length n.is ∙ ap suc (turns_many ks n.rest n.more (λ j h. done j (later h)))
 
   -- the entries of the turns are those of the rows' calls
-  entries_in_order : (g : History) → ((p : ℕ) (t : Entered) → KnowsTurn w p t → slice_get (log g) p ≡ Some t) → (ks ps : List ℕ) → AreTurnsOf w (map (outcome_at outs) ks) ps → ((k : ℕ) → Has ks k → (x : Done) × (outcome_at outs k ≡ Some x) × IsEntryOf g.entries x.0 (call_at k).tree)
+  entries_in_order : (g : History) → ((p : ℕ) (t : Entered) → KnowsTurn w p t → slice_get (log g) p ≡ Some t) → (ks ps : List ℕ)
+      → AreTurnsOf w (map (outcome_at outs) ks) ps → ((k : ℕ) → Has ks k → (x : Done) × (outcome_at outs k ≡ Some x) × IsEntryOf g.entries x.0 (call_at k).tree)
       → AreEntriesOf g.entries (entries_at (log g) ps) (map call_at ks)
   entries_in_order g there [] ps turns right = subst (λ l. AreEntriesOf g.entries (entries_at (log g) l) []) (sym (no_turns w [] ps turns refl)) tt
   entries_in_order g there (k ∷ ks) ps turns right =
       let x : (x : Done) × (outcome_at outs k ≡ Some x) × IsEntryOf g.entries x.0 (call_at k).tree = right k first in
-      let n : NextTurn w x.0 (map (outcome_at outs) ks) ps = next_turn w x.0 (map (outcome_at outs) ks) (outcome_at outs k ∷ map (outcome_at outs) ks) ps turns (ap (λ o. o ∷ map (outcome_at outs) ks) x.1) in
+      let n : NextTurn w x.0 (map (outcome_at outs) ks) ps = next_turn w x.0 (map (outcome_at outs) ks) (outcome_at outs k ∷ map (outcome_at outs) ks) ps turns
+      (ap (λ o. o ∷ map (outcome_at outs) ks) x.1) in
       let own : IsEntryOf g.entries n.turn.entry (call_at k).tree = subst (λ (id : EntryId). IsEntryOf g.entries id (call_at k).tree) (sym n.entry) x.2 in
       let others : AreEntriesOf g.entries (entries_at (log g) n.rest) (map call_at ks) = entries_in_order g there ks n.rest n.more (λ j h. right j (later h)) in
       let is : entries_at (log g) ps ≡ n.turn.entry ∷ entries_at (log g) n.rest =
@@ -111,7 +115,8 @@ module _ (w : View Entered) (outs : List Outcome) (call_at : ℕ → ElaboratedC
       subst (λ l. AreEntriesOf g.entries l (call_at k ∷ map call_at ks)) (sym is) (own, others)
 
 -- the entry of what is done of a row is that of its call
-entry_each : (entries : List FormView) (done : List Done) (firsts : List ElaboratedCall) (k : ℕ) (x : Done) (c : ElaboratedCall) → AreEntriesOf entries (ids_of done) firsts → slice_get done k ≡ Some x → slice_get firsts k ≡ Some c → IsEntryOf entries x.0 c.tree
+entry_each : (entries : List FormView) (done : List Done) (firsts : List ElaboratedCall) (k : ℕ) (x : Done) (c : ElaboratedCall)
+    → AreEntriesOf entries (ids_of done) firsts → slice_get done k ≡ Some x → slice_get firsts k ≡ Some c → IsEntryOf entries x.0 c.tree
 entry_each entries [] firsts k x c are at there = absurd cc
 entry_each entries (y ∷ done) [] k x c are at there = absurd are
 entry_each entries (y ∷ done) (b ∷ firsts) zero x c are at there =
@@ -126,10 +131,12 @@ abbrev pub IsOnlyOne : Design → Type 0
 IsOnlyOne d = (r s : Result Elaborated Fault) → DesignElaborates d r → DesignElaborates d s → r ≡ s
 
 abbrev pub Decides : Design → Type 0
-Decides d = (rows : List PlanRow) (stop : Option Fault) (outs : List Outcome) (plan : IsPlanOf d rows stop) → AreOutcomes any_form rows outs → ((j : ℕ) → j < length rows → (y : Done) × (slice_get outs j ≡ Some (Some y))) → DesignElaborates d plan.result
+Decides d = (rows : List PlanRow) (stop : Option Fault) (outs : List Outcome) (plan : IsPlanOf d rows stop) → AreOutcomes any_form rows outs
+    → ((j : ℕ) → j < length rows → (y : Done) × (slice_get outs j ≡ Some (Some y))) → DesignElaborates d plan.result
 
 abbrev pub WalksAre : Design → Type 0
-WalksAre d = (done firsts : List FinishedCall) (e : Elaborated) → TreeFinishes d done (Ok e) → AreFirstFinishes done firsts → (e.calls ≡ map (λ (x : FinishedCall). x.own) done) × AreDistinct e.calls (map (λ (x : FinishedCall). x.own) firsts)
+WalksAre d = (done firsts : List FinishedCall) (e : Elaborated) → TreeFinishes d done (Ok e) → AreFirstFinishes done firsts → (e.calls ≡ map (λ (x : FinishedCall). x.own) done)
+    × AreDistinct e.calls (map (λ (x : FinishedCall). x.own) firsts)
 
 abbrev pub HasForm : History → EntryId → FormView → Type 0
 HasForm h id form = slice_get h.entries id.0 ≡ Some form
@@ -137,7 +144,8 @@ HasForm h id form = slice_get h.entries id.0 ≡ Some form
 abbrev pub HierarchiesStand : Design → Type 0
 HierarchiesStand d =
     (h : History) (rows : List PlanRow) (outs : List Outcome) (done : List Done) (hier : Hier) (k : ℕ) → IsLegal h → IsPlanOf d rows None → AreOutcomes (HasForm h) rows outs
-    → ((j : ℕ) → j < length rows → (y : Done) × (slice_get outs j ≡ Some (Some y))) → ((j : ℕ) (x : Done) → slice_get done j ≡ Some x → slice_get outs j ≡ Some (Some x)) → suc k ≡ length rows → IsHierAt d rows done k (hier_view hier) → ElaboratesIn d h.entries hier
+    → ((j : ℕ) → j < length rows → (y : Done) × (slice_get outs j ≡ Some (Some y))) → ((j : ℕ) (x : Done) → slice_get done j ≡ Some x → slice_get outs j ≡ Some (Some x))
+    → suc k ≡ length rows → IsHierAt d rows done k (hier_view hier) → ElaboratesIn d h.entries hier
 
 abbrev pub TurnsStand : Design → Type 0
 TurnsStand d =
@@ -163,7 +171,8 @@ last_place rows before row e = (let a : _ = length_push before row in let b : le
 finished_at : (outs : List Outcome) (k : ℕ) (x : Done) → slice_get outs k ≡ Some (Some x) → outcome_at outs k ≡ Some x
 finished_at outs k x e = ap outcome_in e
 
-module _ (d : Design) (v w : View Entered) (plan : Plan) (xs : List (Option (EntryId × Paths))) (hier : Hier) (once : IsOnlyOne d) (decides : Decides d) (walks : WalksAre d) (stand : HierarchiesStand d) (turns_stand : TurnsStand d) (there : TurnsAreThere) (forms : FormsAreThere)
+module _ (d : Design) (v w : View Entered) (plan : Plan) (xs : List (Option (EntryId × Paths))) (hier : Hier) (once : IsOnlyOne d) (decides : Decides d) (walks : WalksAre d)
+    (stand : HierarchiesStand d) (turns_stand : TurnsStand d) (there : TurnsAreThere) (forms : FormsAreThere)
     (of : IsPlanOf d plan.rows plan.stop) (done : AreAllFinished v w plan.rows (outs_of xs)) (is : IsConcluded d plan xs hier) where
   whole : IsPlanOf d plan.rows None
   whole = subst (IsPlanOf d plan.rows) is.whole of
@@ -209,7 +218,8 @@ module _ (d : Design) (v w : View Entered) (plan : Plan) (xs : List (Option (Ent
   outcomes_in : (g : History) → Finds w g → AreOutcomes (HasForm g) plan.rows (outs_of xs)
   outcomes_in g found =
       outcomes_by (KnowsForm w) (HasForm g)
-      (λ id form knows. (let f : slice_get g.entries knows.1.entry.0 ≡ Some knows.1.form = forms w g knows.0 knows.1 found knows.2 in ap (λ (i : EntryId). slice_get g.entries i.0) (sym knows.3) ∙ f ∙ ap Some knows.4))
+      (λ id form knows. (let f : slice_get g.entries knows.1.entry.0 ≡ Some knows.1.form = forms w g knows.0 knows.1 found knows.2 in ap (λ (i : EntryId). slice_get g.entries i.0)
+      (sym knows.3) ∙ f ∙ ap Some knows.4))
       plan.rows (outs_of xs) done.outcomes
 
   hierarchy_in : (g : History) → Finds w g → IsHierarchyFor g.entries hier result.0
@@ -230,8 +240,12 @@ module _ (d : Design) (v w : View Entered) (plan : Plan) (xs : List (Option (Ent
   entry_in : (g : History) → Finds w g → (k : ℕ) → Has done.order k → (x : Done) × (outcome_at (outs_of xs) k ≡ Some x) × IsEntryOf g.entries x.0 (call_at k).tree
   entry_in g found k h =
       let l : k < length plan.rows = done.within k h in
-      let y : (y : Done) × (slice_get is.done k ≡ Some y) = item_at is.done k (subst (λ n. k < n) (sym is.many) l) in
-      (y.0, finished_at (outs_of xs) k y.0 (is.same k y.0 y.1), entry_each g.entries is.done firsts k y.0 (call_at k) (entries_in g found) y.1 (slice_get-get_or firsts k some.0 (subst (λ n. k < n) (sym many_firsts) l)))
+      let y : (y : Done) × (slice_get is.done k ≡ Some y) = item_at is.done k (subst (λ n. k < n) (sym is.many) l) in (
+        y.0,
+        finished_at (outs_of xs) k y.0 (is.same k y.0 y.1),
+        entry_each g.entries is.done firsts k y.0 (call_at k) (entries_in g found) y.1
+            (slice_get-get_or firsts k some.0 (subst (λ n. k < n) (sym many_firsts) l)),
+      )
 
   pub owns_distinct : OwnsDistinct d v w hier
   owns_distinct = record {

@@ -59,7 +59,8 @@ rising_from s (j ∷ places) k up first = up.0
 rising_from s (j ∷ places) k up (later h) = (let l : suc j ≤ k = rising_from (suc j) places k up.1 h in let m : s ≤ j = up.0 in omega (arith, l, m))
 
 -- each of the places has its item
-pub written_at : (outs : List Outcome) (s : ℕ) (places : List ℕ) (list : List Outcome) → AreRising s places → ((k : ℕ) → Has places k → k < length outs) → length list ≡ length places → map (outcome_at (written outs places list)) places ≡ list
+pub written_at : (outs : List Outcome) (s : ℕ) (places : List ℕ) (list : List Outcome) → AreRising s places → ((k : ℕ) → Has places k → k < length outs)
+    → length list ≡ length places → map (outcome_at (written outs places list)) places ≡ list
 written_at outs s [] [] up within many = refl
 written_at outs s [] (o ∷ list) up within many = absurd cc
 written_at outs s (k ∷ places) [] up within many = absurd cc
@@ -75,11 +76,13 @@ written_at outs s (k ∷ places) (o ∷ list) up within many =
     few = omega (arith, many)
 
 -- what is written at a place is one of the items, and meets what the item at the place meets
-pub written_each : (P : ℕ → Outcome → Type 0) (outs : List Outcome) (s : ℕ) (places : List ℕ) (list : List Outcome) → AreRising s places → ((k : ℕ) → Has places k → k < length outs) → AllAt P places list → (k : ℕ) (o : Outcome) → Has places k → slice_get (written outs places list) k ≡ Some o → P k o
+pub written_each : (P : ℕ → Outcome → Type 0) (outs : List Outcome) (s : ℕ) (places : List ℕ) (list : List Outcome) → AreRising s places
+    → ((k : ℕ) → Has places k → k < length outs) → AllAt P places list → (k : ℕ) (o : Outcome) → Has places k → slice_get (written outs places list) k ≡ Some o → P k o
 written_each P outs s [] list up within all k o h e = elim h [ ]
 written_each P outs s (j ∷ places) [] up within all k o h e = absurd all
 written_each P outs s (j ∷ places) (x ∷ list) up within all k o first e =
-    let is : slice_get (written (slice_set outs j x) places list) j ≡ Some x = written_other (slice_set outs j x) places list j (λ h. (let l : suc j ≤ j = rising_from (suc j) places j up.1 h in omega (arith, l))) ∙ set_same outs j x (within j first) in
+    let is : slice_get (written (slice_set outs j x) places list) j ≡ Some x = written_other (slice_set outs j x) places list j
+    (λ h. (let l : suc j ≤ j = rising_from (suc j) places j up.1 h in omega (arith, l))) ∙ set_same outs j x (within j first) in
     let same : x ≡ o = ap (λ p. unwrap_or p x) (sym is ∙ e) in
     subst (λ y. P j y) same all.0
 written_each P outs s (j ∷ places) (x ∷ list) up within all k o (later h) e =
@@ -135,17 +138,21 @@ module _ {X : Type 0} where
   yields_more done rest all x more is whole = append_assoc done (x ∷ []) more ∙ ap (λ l. done ++ l) (sym is) ∙ whole
 
   -- a step of the writing
-  pub one_written : (xs now : List X) (places : List ℕ) (n : ℕ) (list : List X) (x : X) → n < length places → n ≡ length list → now ≡ written xs (take n places) list → slice_set now (get_or places n 0) x ≡ written xs (take (n + 1) places) (list ++ x ∷ [])
+  pub one_written : (xs now : List X) (places : List ℕ) (n : ℕ) (list : List X) (x : X) → n < length places → n ≡ length list → now ≡ written xs (take n places) list
+      → slice_set now (get_or places n 0) x ≡ written xs (take (n + 1) places) (list ++ x ∷ [])
   one_written xs now places n list x l many is =
-      ap (λ ys. slice_set ys (get_or places n 0) x) is ∙ sym (written_more xs (take n places) list (get_or places n 0) x (sym many ∙ sym (take_length n places (omega (arith, l))))) ∙ ap (λ ps. written xs ps (list ++ x ∷ [])) (sym (take_more places n 0 l))
+      ap (λ ys. slice_set ys (get_or places n 0) x) is ∙ sym (written_more xs (take n places) list (get_or places n 0) x (sym many ∙ sym (take_length n places (omega (arith, l)))))
+      ∙ ap (λ ps. written xs ps (list ++ x ∷ [])) (sym (take_more places n 0 l))
 
   -- a place that is read is within
-  pub place_within : (xs now : List X) (places ps : List ℕ) (n : ℕ) (list : List X) → ((k : ℕ) → Has places k → k < length xs) → n < length places → now ≡ written xs ps list → get_or places n 0 < length now
+  pub place_within : (xs now : List X) (places ps : List ℕ) (n : ℕ) (list : List X) → ((k : ℕ) → Has places k → k < length xs) → n < length places
+      → now ≡ written xs ps list → get_or places n 0 < length now
   place_within xs now places ps n list within l is =
       subst (λ m. get_or places n 0 < m) (sym (ap length is ∙ written_length xs ps list)) (within (get_or places n 0) (has_at places n (get_or places n 0) (slice_get-get_or places n 0 l)))
 
   -- all is written
-  pub all_written : (xs now : List X) (places : List ℕ) (n : ℕ) (list all : List X) → length all ≡ length places → n ≡ length list → list ≡ all → now ≡ written xs (take n places) list → now ≡ written xs places all
+  pub all_written : (xs now : List X) (places : List ℕ) (n : ℕ) (list all : List X) → length all ≡ length places → n ≡ length list → list ≡ all
+      → now ≡ written xs (take n places) list → now ≡ written xs places all
   all_written xs now places n list all many e same is =
       is ∙ ap (λ ps. written xs ps list) (take_all n places (e ∙ ap length same ∙ many)) ∙ ap (λ l. written xs places l) same
 

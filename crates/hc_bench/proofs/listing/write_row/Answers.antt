@@ -8,7 +8,8 @@ pub returns-in_err-write_number : goal.returns-in_err-write_number
 returns-in_err-write_number g c =
     let sim = g.S.Sim.runs c.args.sim.now in
     let outputs = c.args.outputs.now in
-    stop_first _ _ _ _ _ _ _ c.from_residual.result (decimal c.args.cycle) (values_text outputs sim.before) (codes " |") (values_text outputs sim.after) (10 ∷ []) c.from_residual.ensures.0 c.in_err-write_number.ensures
+    stop_first _ _ _ _ _ _ _ c.from_residual.result (decimal c.args.cycle) (values_text outputs sim.before) (codes " |") (values_text outputs sim.after)
+    (10 ∷ []) c.from_residual.ensures.0 c.in_err-write_number.ensures
 
 pub returns-in_err-write_before : goal.returns-in_err-write_before
 returns-in_err-write_before g c =

@@ -5,6 +5,7 @@ use Rattle.hc_bench.proofs.run.cycles.Given as goal
 
 abbrev pub invariant-ticks : goal.invariant-ticks
 invariant-ticks g l = record {
-  plays : Plays l.outputs (g.S.Sim.runs l.initial.sim) l.count (Cycle l.done ∷ []) (g.S.Sim.runs l.sim) (l.count + l.done) (g.K.Sink.taken l.initial.to) (g.K.Sink.taken l.to) l.initial.waiting l.waiting;
+  plays : Plays l.outputs (g.S.Sim.runs l.initial.sim) l.count (Cycle l.done ∷ []) (g.S.Sim.runs l.sim) (l.count + l.done) (g.K.Sink.taken l.initial.to)
+      (g.K.Sink.taken l.to) l.initial.waiting l.waiting;
   never_falls : g.K.Sink.faults l.initial.to ≤ g.K.Sink.faults l.to;
 }

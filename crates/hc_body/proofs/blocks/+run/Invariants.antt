@@ -15,7 +15,8 @@ invariant-run_block-stmts l = record {
 -- the turns that are left give what all give
 abbrev pub invariant-run_turns-turns : goal.invariant-run_turns-turns
 invariant-run_turns-turns l = record {
-  so_far : run l.design l.path (flat_map (turn l.line l.var (map events_of l.body) l.fn.run.env) (range l.value l.upto)) (l.run.count, l.run.body) ≡ run l.design l.path (flat_map (turn l.line l.var (map events_of l.body) l.fn.run.env) (range l.from l.upto)) (l.fn.run.count, l.fn.run.body);
+  so_far : run l.design l.path (flat_map (turn l.line l.var (map events_of l.body) l.fn.run.env) (range l.value l.upto)) (l.run.count, l.run.body) ≡ run l.design l.path
+      (flat_map (turn l.line l.var (map events_of l.body) l.fn.run.env) (range l.from l.upto)) (l.fn.run.count, l.fn.run.body);
   env : l.run.env ≡ l.fn.run.env;
   known : AreKnown l.run.body.graph l.run.body.names;
 }

@@ -10,7 +10,9 @@ abbrev Done : Type 0
 Done = Result (Elaborating × Unit {0}) Broken
 
 pub returns-in-Ok-weigh-clause-done : goal.returns-in-Ok-weigh-clause-done
-returns-in-Ok-weigh-clause-done c = ap (λ (r : Done). weighed c.args.design.now c.args.path.now c.args.run.now.count c.args.stmt.now.line r) c.in-Ok.ensures.done ∙ c.in-Ok-weigh.ensures c.args.design.now
+returns-in-Ok-weigh-clause-done c = ap (λ (r : Done). weighed c.args.design.now c.args.path.now c.args.run.now.count c.args.stmt.now.line r) c.in-Ok.ensures.done
+    ∙ c.in-Ok-weigh.ensures c.args.design.now
 
 pub returns-in-Err-clause-done : goal.returns-in-Err-clause-done
-returns-in-Err-clause-done c = subst (λ (r : Done). Refuses c.in-Err.stop (weighed c.args.design.now c.args.path.now c.args.run.now.count c.args.stmt.now.line r)) (sym c.in-Ok.ensures.done) (c.in-Err.ensures c.args.design.now)
+returns-in-Err-clause-done c = subst (λ (r : Done). Refuses c.in-Err.stop (weighed c.args.design.now c.args.path.now c.args.run.now.count c.args.stmt.now.line r))
+    (sym c.in-Ok.ensures.done) (c.in-Err.ensures c.args.design.now)

@@ -2,4 +2,5 @@ use Rattle.hc_statements.proofs.Known.{known_input}
 use Rattle.hc_body.proofs.open.open_input.Goals as goal
 
 pub returns-clause-known : goal.returns-clause-known
-returns-clause-known c = known_input c.args.state.now.graph c.input.new.graph c.args.state.now.names c.name_port.new.names c.args.name.now c.args.width c.in_ok-id.id c.requires.known c.in_ok-id.ensures.id c.in_ok-id.ensures.made c.in_ok-name_port.ensures
+returns-clause-known c = known_input c.args.state.now.graph c.input.new.graph c.args.state.now.names c.name_port.new.names c.args.name.now c.args.width c.in_ok-id.id
+    c.requires.known c.in_ok-id.ensures.id c.in_ok-id.ensures.made c.in_ok-name_port.ensures

@@ -15,7 +15,8 @@ pub returns-in_err-write_path-clause-front : goal.returns-in_err-write_path-clau
 returns-in_err-write_path-clause-front g c =
     (sent_cut _ _ _ _ _ _ c.from_residual-in_err-write_path.result (fault_line c.args.fault.now) (path_text c.args.fault.now.path ++ codes "\n") (path_text c.args.fault.now.path) (codes "\n")
     c.from_residual-in_err-write_path.ensures.0
-    (sent_more _ _ _ (fault_line c.args.fault.now) (fault_line c.args.fault.now) (front_text c.args.fault.now) (path_text c.args.fault.now.path ++ codes "\n") (sent_none _ _) (line_parts c.args.fault.now) c.in_ok-write_front.ensures.all)
+    (sent_more _ _ _ (fault_line c.args.fault.now) (fault_line c.args.fault.now) (front_text c.args.fault.now) (path_text c.args.fault.now.path ++ codes "\n") (sent_none _ _)
+    (line_parts c.args.fault.now) c.in_ok-write_front.ensures.all)
     c.in_ok-write_front.ensures.cause.never_falls refl
     c.in_err-write_path.ensures.front c.in_err-write_path.ensures.cause.never_falls c.in_err-write_path.ensures.cause.failed).front
 
@@ -23,6 +24,7 @@ pub returns-clause-front : goal.returns-clause-front
 returns-clause-front g c =
     sent_last _ _ _ c.write_all.result (fault_line c.args.fault.now) (codes "\n")
     (sent_more _ _ _ (fault_line c.args.fault.now) (path_text c.args.fault.now.path ++ codes "\n") (path_text c.args.fault.now.path) (codes "\n")
-    (sent_more _ _ _ (fault_line c.args.fault.now) (fault_line c.args.fault.now) (front_text c.args.fault.now) (path_text c.args.fault.now.path ++ codes "\n") (sent_none _ _) (line_parts c.args.fault.now) c.in_ok-write_front.ensures.all)
+    (sent_more _ _ _ (fault_line c.args.fault.now) (fault_line c.args.fault.now) (front_text c.args.fault.now) (path_text c.args.fault.now.path ++ codes "\n") (sent_none _ _)
+    (line_parts c.args.fault.now) c.in_ok-write_front.ensures.all)
     refl c.in_ok-write_path.ensures.all)
     c.write_all.ensures.front

@@ -6,4 +6,5 @@ returns-clause-called c h hier e legal for logs = called_of c.logs_have_the_turn
 
 pub returns-clause-history : goal.returns-clause-history
 returns-clause-history c h hier e legal for logs =
-    in_order_of c.logs_have_the_turns.ensures h e legal logs c.calls_stand_for_calls.ensures.elaborated c.calls_stand_for_calls.ensures.walked c.trees_have_one_entry.ensures c.entries_are_called.ensures hier for
+    in_order_of c.logs_have_the_turns.ensures h e legal logs c.calls_stand_for_calls.ensures.elaborated c.calls_stand_for_calls.ensures.walked c.trees_have_one_entry.ensures
+    c.entries_are_called.ensures hier for

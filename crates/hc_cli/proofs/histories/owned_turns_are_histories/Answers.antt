@@ -9,4 +9,5 @@ returns-clause-called c d w hier h legal owns finds order = owned_called c.logs_
 
 pub returns-clause-history : goal.returns-clause-history
 returns-clause-history c d w hier h legal owns finds order =
-    owned_history c.logs_have_the_turns.ensures d w hier h legal owns finds order c.calls_stand_for_calls.ensures.elaborated c.calls_stand_for_calls.ensures.walked c.trees_have_one_entry.ensures c.entries_are_called.ensures
+    owned_history c.logs_have_the_turns.ensures d w hier h legal owns finds order c.calls_stand_for_calls.ensures.elaborated c.calls_stand_for_calls.ensures.walked
+    c.trees_have_one_entry.ensures c.entries_are_called.ensures

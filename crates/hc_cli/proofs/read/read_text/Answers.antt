@@ -14,4 +14,5 @@ pub returns-in-Ok-clause-read : goal.returns-in-Ok-clause-read
 returns-in-Ok-clause-read c = λ job due is. parsed c.in-Ok.design (omega (arith, c.if-text-gt-LIMIT.false)) c.in-Ok.ensures is
 
 pub returns-in-Err-Fault-clause-read : goal.returns-in-Err-Fault-clause-read
-returns-in-Err-Fault-clause-read c = faulty_read c.args.text.now c.in-Err-Fault.fault (omega (arith, c.if-text-gt-LIMIT.false)) (subst (λ (r : Refused). Answers c.args.text.now (Err r)) c.in-Err-Fault.field-0-is c.in-Err-Fault.ensures)
+returns-in-Err-Fault-clause-read c = faulty_read c.args.text.now c.in-Err-Fault.fault (omega (arith, c.if-text-gt-LIMIT.false))
+    (subst (λ (r : Refused). Answers c.args.text.now (Err r)) c.in-Err-Fault.field-0-is c.in-Err-Fault.ensures)

@@ -9,7 +9,8 @@ use Rattle.hc_dbstate.proofs.insert.place_of.Goals as goal
 pub returns-in-Some : goal.returns-in-Some
 returns-in-Some c =
     let key : c.low_bits.result ≡ key_of c.args.bits c.args.form.now = c.low_bits.ensures ∙ ap (low_bits c.args.bits) c.requires.hash in
-    let listed : c.in-Some.listed.now.items ≡ places_from c.args.bits 0 c.low_bits.result c.args.entries.now = ap (λ o. option_map_or (λ v. v.items) o []) c.in-Some.ensures.value ∙ c.requires.index c.low_bits.result in
+    let listed : c.in-Some.listed.now.items ≡ places_from c.args.bits 0 c.low_bits.result c.args.entries.now = ap (λ o. option_map_or (λ v. v.items) o []) c.in-Some.ensures.value
+    ∙ c.requires.index c.low_bits.result in
     on_none _ _ _ (none_elsewhere c.args.bits c.low_bits.result c.args.entries.now _ c.args.form.now (c.as_slice.ensures.value ∙ listed) key) c.find.result c.find.ensures
 
 pub returns-in-None : goal.returns-in-None

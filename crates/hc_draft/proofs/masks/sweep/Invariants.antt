@@ -9,4 +9,5 @@ use Rattle.hc_draft.proofs.masks.sweep.Given as goal
 -- what is left of the order still gives
 abbrev pub invariant-order : goal.invariant-order
 invariant-order l =
-    swept (local_fanin l.circuit (masks_of l.kids)) (reverse (iter_rest (rev_source l.id-iterator))) l.masks.items ≡ swept (local_fanin l.circuit (masks_of l.kids)) (reverse l.order) l.initial.masks.items
+    swept (local_fanin l.circuit (masks_of l.kids)) (reverse (iter_rest (rev_source l.id-iterator))) l.masks.items ≡ swept (local_fanin l.circuit (masks_of l.kids))
+    (reverse l.order) l.initial.masks.items

@@ -15,4 +15,5 @@ finish-requires-clause-there c = subst (λ xs. AreThere c.rows.db (outs_of xs)) 
 
 pub rows-preserved : goal.rows-preserved
 rows-preserved c =
-    one_more _ _ _ c.requires _ _ (row_at _ _ _ _ c.as_slice-rows.ensures c.rows-test.true c.row-item.is) _ c.rows.db _ _ _ _ c.in_ok-out.out c.rows.invariant c.as_slice.ensures.value c.in_ok-out.ensures.ok c.in_ok-push.ensures.items
+    one_more _ _ _ c.requires _ _ (row_at _ _ _ _ c.as_slice-rows.ensures c.rows-test.true c.row-item.is) _ c.rows.db _ _ _ _ c.in_ok-out.out c.rows.invariant
+    c.as_slice.ensures.value c.in_ok-out.ensures.ok c.in_ok-push.ensures.items

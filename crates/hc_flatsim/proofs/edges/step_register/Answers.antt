@@ -9,23 +9,30 @@ use Rattle.hc_flatsim.proofs.edges.step_register.Goals as goal
 
 pub next_of-next-requires-clause-width : goal.next_of-next-requires-clause-width
 next_of-next-requires-clause-width c =
-    let at : slice_get c.args.circuit.now.nodes c.args.id.0 ≡ Some c.in-Some.row.now = let h = c.in-Some.ensures.lookup in row_read c.args.circuit.now.nodes c.nodes.result.now c.args.id.0 c.in-Some.row.now c.nodes.ensures h.3.0 h.1 in
-    alike (λ (b : BitVector). b.width) (λ (row : NodeRow). row.width) c.args.registers.now c.args.circuit.now.nodes c.requires.registers c.args.id.0 c.in-Some.row.now c.index-registers-id.result at c.index-registers-id.is
+    let at : slice_get c.args.circuit.now.nodes c.args.id.0 ≡ Some c.in-Some.row.now = let h = c.in-Some.ensures.lookup
+    in row_read c.args.circuit.now.nodes c.nodes.result.now c.args.id.0 c.in-Some.row.now c.nodes.ensures h.3.0 h.1 in
+    alike (λ (b : BitVector). b.width) (λ (row : NodeRow). row.width) c.args.registers.now c.args.circuit.now.nodes c.requires.registers c.args.id.0 c.in-Some.row.now
+    c.index-registers-id.result at c.index-registers-id.is
 
 pub next_of-next-requires-clause-lawful : goal.next_of-next-requires-clause-lawful
 next_of-next-requires-clause-lawful c =
-    let at : slice_get c.args.circuit.now.nodes c.args.id.0 ≡ Some c.in-Some.row.now = let h = c.in-Some.ensures.lookup in row_read c.args.circuit.now.nodes c.nodes.result.now c.args.id.0 c.in-Some.row.now c.nodes.ensures h.3.0 h.1 in
+    let at : slice_get c.args.circuit.now.nodes c.args.id.0 ≡ Some c.in-Some.row.now = let h = c.in-Some.ensures.lookup
+    in row_read c.args.circuit.now.nodes c.nodes.result.now c.args.id.0 c.in-Some.row.now c.nodes.ensures h.3.0 h.1 in
     (c.lawful.ensures.nodes _ _ at).1
 
 pub returns-in-Some-clause-value : goal.returns-in-Some-clause-value
 returns-in-Some-clause-value c =
-    let at : slice_get c.args.circuit.now.nodes c.args.id.0 ≡ Some c.in-Some.row.now = let h = c.in-Some.ensures.lookup in row_read c.args.circuit.now.nodes c.nodes.result.now c.args.id.0 c.in-Some.row.now c.nodes.ensures h.3.0 h.1 in
-    c.replace.ensures.value ∙ placed (λ (b : BitVector). b.width) (λ (row : NodeRow). row.width) c.args.registers.now c.args.circuit.now.nodes c.requires.registers (next_of_row c.args.values.now) c.args.id.0 c.in-Some.row.now c.index-registers-id.result c.next_of-next.result at c.index-registers-id.is c.next_of-next.ensures
+    let at : slice_get c.args.circuit.now.nodes c.args.id.0 ≡ Some c.in-Some.row.now = let h = c.in-Some.ensures.lookup
+    in row_read c.args.circuit.now.nodes c.nodes.result.now c.args.id.0 c.in-Some.row.now c.nodes.ensures h.3.0 h.1 in
+    c.replace.ensures.value ∙ placed (λ (b : BitVector). b.width) (λ (row : NodeRow). row.width) c.args.registers.now c.args.circuit.now.nodes c.requires.registers
+    (next_of_row c.args.values.now) c.args.id.0 c.in-Some.row.now c.index-registers-id.result c.next_of-next.result at c.index-registers-id.is c.next_of-next.ensures
 
 pub returns-in-Some-clause-widths : goal.returns-in-Some-clause-widths
 returns-in-Some-clause-widths c =
-    let at : slice_get c.args.circuit.now.nodes c.args.id.0 ≡ Some c.in-Some.row.now = let h = c.in-Some.ensures.lookup in row_read c.args.circuit.now.nodes c.nodes.result.now c.args.id.0 c.in-Some.row.now c.nodes.ensures h.3.0 h.1 in
-    ap widths c.replace.ensures.value ∙ placed_alike (λ (b : BitVector). b.width) (λ (row : NodeRow). row.width) c.args.registers.now c.args.circuit.now.nodes c.requires.registers c.args.id.0 c.in-Some.row.now c.index-registers-id.result c.next_of-next.result at c.index-registers-id.is (ap (λ (b : BitVector). b.width) c.next_of-next.ensures)
+    let at : slice_get c.args.circuit.now.nodes c.args.id.0 ≡ Some c.in-Some.row.now = let h = c.in-Some.ensures.lookup
+    in row_read c.args.circuit.now.nodes c.nodes.result.now c.args.id.0 c.in-Some.row.now c.nodes.ensures h.3.0 h.1 in
+    ap widths c.replace.ensures.value ∙ placed_alike (λ (b : BitVector). b.width) (λ (row : NodeRow). row.width) c.args.registers.now c.args.circuit.now.nodes c.requires.registers
+    c.args.id.0 c.in-Some.row.now c.index-registers-id.result c.next_of-next.result at c.index-registers-id.is (ap (λ (b : BitVector). b.width) c.next_of-next.ensures)
 
 pub returns-in_default-clause-value : goal.returns-in_default-clause-value
 returns-in_default-clause-value c =

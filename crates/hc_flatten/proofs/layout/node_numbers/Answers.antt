@@ -8,4 +8,6 @@ rows-preserved c =
     c.in_ok-push.ensures.items
     ∙ ap (λ l. l ++ c.in_ok-number.field-0 ∷ []) c.rows.invariant
     ∙ ap (λ n. numbers_from c.args.place.now c.args.form.now.circuit (kid_trees c.args.db.now.entries c.args.form.now) 0 (take c.rows.n c.args.form.now.circuit.nodes) ++ n ∷ []) c.in_ok-number.ensures
-    ∙ sym (numbers_next c.args.place.now c.args.form.now.circuit (kid_trees c.args.db.now.entries c.args.form.now) c.args.form.now.circuit.nodes c.rows.n c.row-item.result (item_at c.args.form.now.circuit.nodes c.nodes-row-items.result.now c.rows.n c.row-item.result (c.nodes-row-items.ensures ∙ ap (λ g. g.nodes) c.circuit.ensures) c.rows-test.true c.row-item.is))
+    ∙ sym (numbers_next c.args.place.now c.args.form.now.circuit (kid_trees c.args.db.now.entries c.args.form.now) c.args.form.now.circuit.nodes c.rows.n c.row-item.result
+    (item_at c.args.form.now.circuit.nodes c.nodes-row-items.result.now c.rows.n c.row-item.result
+    (c.nodes-row-items.ensures ∙ ap (λ g. g.nodes) c.circuit.ensures) c.rows-test.true c.row-item.is))

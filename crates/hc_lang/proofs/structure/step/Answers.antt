@@ -6,4 +6,5 @@ use Rattle.hc_lang.proofs.structure.step.Goals as goal
 
 pub returns-in_default : goal.returns-in_default
 returns-in_default c =
-    subst (λ x. Gives (λ o. o) c.elsewhere.result (s.misplaced_at c.args.number x)) (sym (outside c.args.most c.args.outline.circuits c.args.outline.place c.args.number c.args.line c.in_default.not-Circuit)) c.elsewhere.ensures
+    subst (λ x. Gives (λ o. o) c.elsewhere.result (s.misplaced_at c.args.number x))
+    (sym (outside c.args.most c.args.outline.circuits c.args.outline.place c.args.number c.args.line c.in_default.not-Circuit)) c.elsewhere.ensures

@@ -6,7 +6,8 @@ use Rattle.hc_layout.proofs.up.kid_row.Goals as goal
 
 pub parts-preserved : goal.parts-preserved
 parts-preserved c =
-    kid_more c.args.up.now (slice_get c.args.plans.now c.args.id.0) c.args.p c.args.i.0 c.parts.part _ _ _ _ _ _ c.parts.invariant c.in_ok-push.ensures.items c.in_ok-short.ensures c.number_or.ensures c.running_part-by.ensures c.items-start.ensures
+    kid_more c.args.up.now (slice_get c.args.plans.now c.args.id.0) c.args.p c.args.i.0 c.parts.part _ _ _ _ _ _ c.parts.invariant c.in_ok-push.ensures.items c.in_ok-short.ensures
+    c.number_or.ensures c.running_part-by.ensures c.items-start.ensures
 
 pub returns : goal.returns
 returns c =

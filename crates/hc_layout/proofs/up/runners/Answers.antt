@@ -15,8 +15,11 @@ push_kids-requires-clause-many c =
 
 pub instances-preserved : goal.instances-preserved
 instances-preserved c =
-    let there : c.instances.p < length c.args.layout.now.entries = omega (arith, c.len-p-end.ensures) in
-    (c.in_ok-push_kids.ensures.up, next_more c.args.db.now.entries c.args.top c.args.layout.now c.instances.p _ _ c.requires there (c.instances.invariant.1.begins there) c.in_ok-push_kids.ensures.many)
+    let there : c.instances.p < length c.args.layout.now.entries = omega (arith, c.len-p-end.ensures) in (
+      c.in_ok-push_kids.ensures.up,
+      next_more c.args.db.now.entries c.args.top c.args.layout.now c.instances.p _ _ c.requires there
+          (c.instances.invariant.1.begins there) c.in_ok-push_kids.ensures.many,
+    )
 
 pub returns : goal.returns
 returns c =

@@ -14,4 +14,5 @@ used_entries-requires c =
 pub text_of-requires-clause-there : goal.text_of-requires-clause-there
 text_of-requires-clause-there c =
     subst (λ (e : EntryId). AreThere c.args.db.now.entries e c.args.names.now) (ap (λ (v : HierView). v.own.entry) (fold_out-Hier HierView hier_level c.args.hier.now))
-    (all_there c.args.db.now.entries c.args.hier.now c.requires.elaboration (λ id used. c.used_entries_are_called.ensures.called c.args.db.now.entries c.args.hier.now id c.requires.elaboration used) c.args.names.now c.requires.named)
+    (all_there c.args.db.now.entries c.args.hier.now c.requires.elaboration
+    (λ id used. c.used_entries_are_called.ensures.called c.args.db.now.entries c.args.hier.now id c.requires.elaboration used) c.args.names.now c.requires.named)

@@ -17,5 +17,6 @@ kids-preserved t c = record {
 pub returns-clause-named : goal.returns-clause-named
 returns-clause-named t c =
     on_ok_weaker c.name_marked.result
-    (λ own. kids_done c.args.hier.now c.as_slice-kids.result.now c.kids.kid-index c.args.names.now c.kids.names c.name_marked.new.names c.kids-test.false c.as_slice-kids.ensures c.kids.invariant.named own)
+    (λ own. kids_done c.args.hier.now c.as_slice-kids.result.now c.kids.kid-index c.args.names.now c.kids.names c.name_marked.new.names c.kids-test.false c.as_slice-kids.ensures
+    c.kids.invariant.named own)
     c.name_marked.ensures.named

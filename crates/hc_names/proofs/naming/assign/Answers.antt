@@ -15,5 +15,6 @@ returns c =
     let end = c.name_calls.new.names in
     let entries = c.args.db.now.entries in
     let steps = subst (λ (rows : List NameRow). NamesTo rows (requests (walk c.args.hier.now)) end) c.new-names.ensures c.in_ok-name_calls.ensures.named in
-    let r = named_on entries (length entries) (λ i j. c.entries_unfold_once.ensures c.args.db.now i j c.legal.ensures) (walk c.args.hier.now) [] [] [] end (λ call h. let over = c.requires.calls call h in slice_get_within entries call.own.entry.0 over.form over.found) (fits_none entries (length entries)) steps in
+    let r = named_on entries (length entries) (λ i j. c.entries_unfold_once.ensures c.args.db.now i j c.legal.ensures) (walk c.args.hier.now) [] [] [] end
+    (λ call h. let over = c.requires.calls call h in slice_get_within entries call.own.entry.0 over.form over.found) (fits_none entries (length entries)) steps in
     record { names = r.0; right = r.1; first = r.2 }

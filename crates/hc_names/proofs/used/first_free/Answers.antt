@@ -15,5 +15,6 @@ pub unreachable-requires : goal.unreachable-requires
 unreachable-requires c =
     let begins : c.args.from ≤ length (keys_of c.args.names.now.entries) = given_below_fit c.args.name.now c.args.from (keys_of c.args.names.now.entries) (omega arith) c.requires in
     let many : length (keys_of c.args.names.now.entries) ≡ length c.args.names.now.entries = length-map _ _ in
-    let ends : c.loop-number.number ≤ length (keys_of c.args.names.now.entries) = given_below_fit c.args.name.now c.loop-number.number (keys_of c.args.names.now.entries) (omega arith) c.loop-number.invariant in
+    let ends : c.loop-number.number ≤ length (keys_of c.args.names.now.entries) = given_below_fit c.args.name.now c.loop-number.number (keys_of c.args.names.now.entries)
+    (omega arith) c.loop-number.invariant in
     omega arith

@@ -17,12 +17,14 @@ returns-in_ok-add-in-None-clause-mangled c = mangled_free c.args.names.now.entri
 pub returns-in_ok-add-in-Some-clause-numbered : goal.returns-in_ok-add-in-Some-clause-numbered
 returns-in_ok-add-in-Some-clause-numbered c =
     subst AreNumbered (sym (rw c.in_ok-add-in-Some.ensures.added at c.set_number.ensures))
-    (numbered_next c.args.names.now.entries c.args.name.now c.in_ok-number-in-Some.given c.in_ok-number-in-Some.number c.requires c.in_ok-number-in-Some.ensures.named c.in_ok-number-in-Some.ensures.first)
+    (numbered_next c.args.names.now.entries c.args.name.now c.in_ok-number-in-Some.given c.in_ok-number-in-Some.number c.requires c.in_ok-number-in-Some.ensures.named
+    c.in_ok-number-in-Some.ensures.first)
 
 pub returns-in_ok-add-in-Some-clause-mangled : goal.returns-in_ok-add-in-Some-clause-mangled
 returns-in_ok-add-in-Some-clause-mangled c =
     let found = c.in_ok-number-in-Some in
-    mangled_numbered c.args.names.now.entries c.args.name.now found.given c.in-Some.from found.number (sym c.number_of.ensures ∙ c.in-Some.is) found.ensures.free found.ensures.named found.ensures.first
+    mangled_numbered c.args.names.now.entries c.args.name.now found.given c.in-Some.from found.number
+    (sym c.number_of.ensures ∙ c.in-Some.is) found.ensures.free found.ensures.named found.ensures.first
 
 pub returns-in_ok-add-in-Some-clause-given : goal.returns-in_ok-add-in-Some-clause-given
 returns-in_ok-add-in-Some-clause-given c =

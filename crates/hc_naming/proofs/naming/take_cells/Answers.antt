@@ -17,4 +17,5 @@ loop-k-preserved c =
     let operation : is_operation row.node ≡ true = sym c.is_operation.ensures ∙ c.if-not-is_operation.false in
     cell_named g c.canonical.ensures.lawful c.canonical.ensures.canonical _ _ c.loop-k.names _ _ _ (first + k) refl refl refl lt
     (filled_as _ _ _ _ _ (c.in_ok-wanted.ensures ∙ ap (λ n. 111 ∷ decimal n) number) c.in_ok-fill.ensures)
-    (subst (IsNaming g c.loop-k.used c.loop-k.names) (passing_cut (want_cell g) c.args.rows.now k row (at_place _ _ _ c.loop-k-test.true c.index-rows-k.is) is_operation_row first operation) c.loop-k.invariant)
+    (subst (IsNaming g c.loop-k.used c.loop-k.names) (passing_cut (want_cell g) c.args.rows.now k row (at_place _ _ _ c.loop-k-test.true c.index-rows-k.is) is_operation_row first
+    operation) c.loop-k.invariant)

@@ -7,7 +7,8 @@ use Rattle.hc_naming.proofs.naming.take_names.Goals as goal
 pub take_inputs-requires-clause-next : goal.take_inputs-requires-clause-next
 take_inputs-requires-clause-next c =
     naming_clock c.args.form.now.circuit c.in_ok-names.names c.take_clock.new.used c.as_slice.result.now c.in_ok-take_clock.ensures
-    (c.as_slice.ensures ∙ ap (λ p. p.inputs) (c.ports-ports.ensures ∙ ap (λ g. g.ports) c.circuit-circuit.ensures)) c.in_ok-names.ensures.empty (rw c.circuit-circuit.ensures at c.in_ok-names.ensures.room)
+    (c.as_slice.ensures ∙ ap (λ p. p.inputs) (c.ports-ports.ensures ∙ ap (λ g. g.ports) c.circuit-circuit.ensures)) c.in_ok-names.ensures.empty
+    (rw c.circuit-circuit.ensures at c.in_ok-names.ensures.room)
 
 pub take_nodes-requires-clause-next : goal.take_nodes-requires-clause-next
 take_nodes-requires-clause-next c =

@@ -17,4 +17,5 @@ loop-k-preserved c =
     let inner : is_unmarked c.args.marks.now (first + k, row) ≡ true = ap (λ b. if b then false else true) (sym c.is_marked.ensures ∙ c.if-is_marked.false) in
     node_named g c.canonical.ensures.lawful c.canonical.ensures.canonical _ _ c.loop-k.names _ _ _ (first + k) refl refl refl lt
     (filled_as _ _ _ _ _ (c.in_ok-wanted.ensures ∙ ap (λ n. unwrap_or row.label (110 ∷ decimal n)) number) c.in_ok-fill.ensures)
-    (subst (IsNaming g c.loop-k.used c.loop-k.names) (ap (λ ws. ws ++ from_memories g) (passing_cut (want_node g) c.args.rows.now k row (at_place _ _ _ c.loop-k-test.true c.index-rows-k.is) (is_unmarked c.args.marks.now) first inner)) c.loop-k.invariant)
+    (subst (IsNaming g c.loop-k.used c.loop-k.names) (ap (λ ws. ws ++ from_memories g)
+    (passing_cut (want_node g) c.args.rows.now k row (at_place _ _ _ c.loop-k-test.true c.index-rows-k.is) (is_unmarked c.args.marks.now) first inner)) c.loop-k.invariant)

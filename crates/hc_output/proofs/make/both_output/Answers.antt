@@ -10,7 +10,8 @@ returns-clause-out c = λ e for.
     let hier = c.args.hier.now in
     let g = c.in_ok-circuit.circuit in
     let text = c.in_ok-text.text.items in
-    let run = flat_runs c.benches_have_runs.ensures.runs c.benches_have_runs.ensures.starts c.flat_graphs_run_alike.ensures c.same_trees_run_alike.ensures entries hier g e c.args.bench.steps c.lawful.ensures c.in_ok-circuit.ensures for c.requires.steps in (
+    let run = flat_runs c.benches_have_runs.ensures.runs c.benches_have_runs.ensures.starts c.flat_graphs_run_alike.ensures c.same_trees_run_alike.ensures entries hier g e
+    c.args.bench.steps c.lawful.ensures c.in_ok-circuit.ensures for c.requires.steps in (
       run.0,
       text ++ 10 ∷ listing_for e run.0,
       run.2,

@@ -9,5 +9,16 @@ returns-clause-out c = λ e for.
     let entries = c.args.db.now.entries in
     let hier = c.args.hier.now in
     let g = c.in_ok-circuit.circuit in
-    let run = flat_runs c.benches_have_runs.ensures.runs c.benches_have_runs.ensures.starts c.flat_graphs_run_alike.ensures c.same_trees_run_alike.ensures entries hier g e c.args.bench.steps c.lawful.ensures c.in_ok-circuit.ensures for c.requires.steps in
-    (run.0, listing_for e run.0, run.2, refl, (listing g.ports.outputs run.0, (run.0, run.1, refl), sim_listing c.new.result.items g e run.0 c.new.ensures.items (ports_alike entries hier g e c.in_ok-circuit.ensures for)))
+    let run = flat_runs c.benches_have_runs.ensures.runs c.benches_have_runs.ensures.starts c.flat_graphs_run_alike.ensures c.same_trees_run_alike.ensures entries hier g e
+    c.args.bench.steps c.lawful.ensures c.in_ok-circuit.ensures for c.requires.steps in (
+      run.0,
+      listing_for e run.0,
+      run.2,
+      refl,
+      (
+        listing g.ports.outputs run.0,
+        (run.0, run.1, refl),
+        sim_listing c.new.result.items g e run.0 c.new.ensures.items
+            (ports_alike entries hier g e c.in_ok-circuit.ensures for),
+      ),
+    )

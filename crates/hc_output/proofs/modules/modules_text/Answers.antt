@@ -10,4 +10,5 @@ pub returns : goal.returns
 returns c =
     let entries = c.args.db.now.entries in
     let hier = c.args.hier.now in
-    IfOk-weaker c.unfolded_text.result _ _ (λ text x. λ e for. c.alike_calls_have_one_text.ensures (unfolding_of entries (hier_view hier).own.entry) e.tree (named_trees entries hier) (named_calls e.calls) text.items for.top (are_alike entries (walk hier) e.calls for.calls) x) c.unfolded_text.ensures
+    IfOk-weaker c.unfolded_text.result _ _ (λ text x. λ e for. c.alike_calls_have_one_text.ensures (unfolding_of entries (hier_view hier).own.entry) e.tree
+    (named_trees entries hier) (named_calls e.calls) text.items for.top (are_alike entries (walk hier) e.calls for.calls) x) c.unfolded_text.ensures

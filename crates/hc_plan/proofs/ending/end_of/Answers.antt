@@ -12,4 +12,5 @@ outs-preserved c =
 
 pub returns-in-None-out : goal.returns-in-None-out
 returns-in-None-out c =
-    open_after c.outs.yielded c.args.outs.items _ _ _ _ _ c.in-None-out.is c.as_slice.ensures c.outs.invariant.1 c.in-Some.ensures.steps.0 (c.outs.invariant.0 ∙ c.into_iter-out-iterator.ensures.into_iter_gives.0)
+    open_after c.outs.yielded c.args.outs.items _ _ _ _ _ c.in-None-out.is c.as_slice.ensures c.outs.invariant.1 c.in-Some.ensures.steps.0
+    (c.outs.invariant.0 ∙ c.into_iter-out-iterator.ensures.into_iter_gives.0)

@@ -13,7 +13,8 @@ returns c = record {
       marks_stay t plans are state inputs vals new stale (at_path p n) same
       (λ j g. told_own t plans are tables told stale p r part n j h u g)
       (λ j g. told_readers t plans are tables told stale p r part n j h u readers g)
-      (λ i j q e g. let a = up i q e in told_takers t plans are tables told stale q i ((subst (λ l. IsReachedPath t l) e r).0) part n a.0 j (subst (λ l. Has (facts (steps_at (plans l) part)) (made n)) e h) a.1 a.2 a.3 g)
+      (λ i j q e g. let a = up i q e in told_takers t plans are tables told stale q i ((subst (λ l. IsReachedPath t l) e r).0) part n a.0 j
+      (subst (λ l. Has (facts (steps_at (plans l) part)) (made n)) e h) a.1 a.2 a.3 g)
       (λ i j m port q e y z g. absurd (made_no_input t plans are p r part n port h y))
       marked;
   gives = λ t plans state inputs vals new stale tables whole are told q i port n k r y e changed same readers marked.

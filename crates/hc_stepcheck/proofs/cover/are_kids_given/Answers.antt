@@ -7,7 +7,8 @@ use Rattle.hc_stepcheck.proofs.cover.are_kids_given.Goals as goal
 
 pub kids-preserved : goal.kids-preserved
 kids-preserved c =
-    next (λ (k : ℕ). AreInputsGiven c.args.site.now.db.now.entries c.args.site.now.form.now c.args.site.now.plan.now.parts k × AreRunsGiven c.args.site.now.plans.now c.args.site.now.form.now c.args.site.now.plan.now.parts k)
+    next (λ (k : ℕ). AreInputsGiven c.args.site.now.db.now.entries c.args.site.now.form.now c.args.site.now.plan.now.parts k
+    × AreRunsGiven c.args.site.now.plans.now c.args.site.now.form.now c.args.site.now.plan.now.parts k)
     c.kids.i c.kids.invariant (c.is_kid_given.ensures c.if-is_kid_given.true)
 
 pub returns : goal.returns

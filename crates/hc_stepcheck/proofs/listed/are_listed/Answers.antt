@@ -7,7 +7,8 @@ use Rattle.hc_stepcheck.proofs.listed.are_listed.Goals as goal
 
 pub each-preserved : goal.each-preserved
 each-preserved c =
-    next (λ (k : ℕ). AreListedIn c.args.site.now.db.now.entries c.args.site.now.plans.now c.args.site.now.form.now c.args.site.now.plan.now k) c.each.j c.each.invariant (c.are_listed_in.ensures c.if-are_listed_in.true)
+    next (λ (k : ℕ). AreListedIn c.args.site.now.db.now.entries c.args.site.now.plans.now c.args.site.now.form.now c.args.site.now.plan.now k) c.each.j c.each.invariant
+    (c.are_listed_in.ensures c.if-are_listed_in.true)
 
 pub returns : goal.returns
 returns c = λ t.

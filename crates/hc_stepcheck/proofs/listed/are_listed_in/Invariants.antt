@@ -5,4 +5,5 @@ use Rattle.hc_stepcheck.specs.Checked.{IsListed}
 use Rattle.hc_stepcheck.proofs.listed.are_listed_in.Given as goal
 
 abbrev pub invariant-steps : goal.invariant-steps
-invariant-steps l = (k : ℕ) → k < l.s → (x : Step) → slice_get (steps_at l.site.plan.now.parts l.part) k ≡ Some x → IsListed l.site.db.now.entries l.site.plans.now l.site.form.now l.site.plan.now l.part x
+invariant-steps l = (k : ℕ) → k < l.s → (x : Step) → slice_get (steps_at l.site.plan.now.parts l.part) k ≡ Some x
+    → IsListed l.site.db.now.entries l.site.plans.now l.site.form.now l.site.plan.now l.part x

@@ -10,4 +10,5 @@ ids-preserved c =
     (there c.args.ids.now c.ids.id-index (record { 0 = 0 }) c.ids-test.true) (c.is_reader_listed.ensures c.if-is_reader_listed.true) c.ids.invariant
 
 pub returns : goal.returns
-returns c = λ t. all_of (λ (m : NodeId). IsReaderListed c.args.site.now.form.now.circuit c.args.site.now.plan.now c.args.part m.0) c.args.ids.now c.ids.id-index (omega (arith, c.ids-test.false)) c.ids.invariant
+returns c = λ t. all_of (λ (m : NodeId). IsReaderListed c.args.site.now.form.now.circuit c.args.site.now.plan.now c.args.part m.0) c.args.ids.now c.ids.id-index
+    (omega (arith, c.ids-test.false)) c.ids.invariant

@@ -8,7 +8,8 @@ use Rattle.hc_stepcheck.proofs.ready.are_ready.Goals as goal
 
 pub steps-preserved : goal.steps-preserved
 steps-preserved c =
-    next (λ (k : ℕ). (x : Step) → slice_get (steps_at c.args.site.now.plan.now.parts c.args.part) k ≡ Some x → IsReadyAt c.args.site.now.db.now.entries c.args.site.now.plans.now c.args.site.now.form.now c.args.site.now.plan.now.parts c.args.part k x)
+    next (λ (k : ℕ). (x : Step) → slice_get (steps_at c.args.site.now.plan.now.parts c.args.part) k ≡ Some x
+    → IsReadyAt c.args.site.now.db.now.entries c.args.site.now.plans.now c.args.site.now.form.now c.args.site.now.plan.now.parts c.args.part k x)
     c.steps.s c.steps.invariant (c.is_ready_at.ensures c.if-is_ready_at.true)
 
 pub returns : goal.returns

@@ -13,5 +13,7 @@ decreases-run g l = entry_number l.site.now.entries l.p
 abbrev pub invariant-steps : goal.invariant-steps
 invariant-steps g l = record {
   advances : Advances l.site l.fn.store l.store;
-  walked : (s : Scene) (path : List ℕ) (last : Board) → Shows s l.site → s.place path ≡ Some l.p → WalksIn s path l.part (drop l.step-index (map step_view l.steps)) (board s l.store) last → WalksIn s path l.part (map step_view l.steps) (board s l.fn.store) last;
+  walked : (s : Scene) (path : List ℕ) (last : Board) → Shows s l.site → s.place path ≡ Some l.p
+      → WalksIn s path l.part (drop l.step-index (map step_view l.steps)) (board s l.store) last
+      → WalksIn s path l.part (map step_view l.steps) (board s l.fn.store) last;
 }

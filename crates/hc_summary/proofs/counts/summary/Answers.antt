@@ -16,7 +16,8 @@ used_entries-requires c =
 pub returns : goal.returns
 returns c =
     let top = ap (λ (v : HierView). v.own.entry) (fold_out-Hier HierView hier_level c.args.hier.now) in
-    summed c.calls_stand_for_calls.ensures.elaborated c.calls_stand_for_calls.ensures.walked c.used_entries_are_called.ensures.top c.used_entries_are_called.ensures.called c.args.db.now c.args.hier.now c.in_ok-used.used.items c.args.bench.now.steps _ _ c.legal.ensures
+    summed c.calls_stand_for_calls.ensures.elaborated c.calls_stand_for_calls.ensures.walked c.used_entries_are_called.ensures.top c.used_entries_are_called.ensures.called
+    c.args.db.now c.args.hier.now c.in_ok-used.used.items c.args.bench.now.steps _ _ c.legal.ensures
     (subst (λ (e : EntryId). AreUses c.args.db.now.entries e c.in_ok-used.used.items) (sym top) c.in_ok-used.ensures)
     (record {
       instances = refl;

@@ -10,8 +10,10 @@ use Rattle.hc_values.proofs.registers.reset_register.Goals as goal
 
 pub returns-in-Some-clause-value : goal.returns-in-Some-clause-value
 returns-in-Some-clause-value c =
-    let at : slice_get c.args.circuit.now.nodes c.args.id.0 ≡ Some c.in-Some.row.now = let h = c.in-Some.ensures.lookup in row_read c.args.circuit.now.nodes c.nodes.result.now c.args.id.0 c.in-Some.row.now c.nodes.ensures h.3.0 h.1 in
-    c.replace.ensures.value ∙ placed (λ (b : BitVector). b.width) (λ (row : NodeRow). row.width) c.args.registers.now c.args.circuit.now.nodes c.requires.registers initial_of_row c.args.id.0 c.in-Some.row.now c.index-registers-id.result c.initial_of-initial.result at c.index-registers-id.is c.initial_of-initial.ensures
+    let at : slice_get c.args.circuit.now.nodes c.args.id.0 ≡ Some c.in-Some.row.now = let h = c.in-Some.ensures.lookup
+    in row_read c.args.circuit.now.nodes c.nodes.result.now c.args.id.0 c.in-Some.row.now c.nodes.ensures h.3.0 h.1 in
+    c.replace.ensures.value ∙ placed (λ (b : BitVector). b.width) (λ (row : NodeRow). row.width) c.args.registers.now c.args.circuit.now.nodes c.requires.registers initial_of_row
+    c.args.id.0 c.in-Some.row.now c.index-registers-id.result c.initial_of-initial.result at c.index-registers-id.is c.initial_of-initial.ensures
 
 pub returns-in_default-clause-value : goal.returns-in_default-clause-value
 returns-in_default-clause-value c =
@@ -20,7 +22,11 @@ returns-in_default-clause-value c =
 
 pub returns-in-Some-clause-widths : goal.returns-in-Some-clause-widths
 returns-in-Some-clause-widths c =
-    let at : slice_get c.args.circuit.now.nodes c.args.id.0 ≡ Some c.in-Some.row.now = let h = c.in-Some.ensures.lookup in row_read c.args.circuit.now.nodes c.nodes.result.now c.args.id.0 c.in-Some.row.now c.nodes.ensures h.3.0 h.1 in
-    let same : c.index-registers-id.result.width ≡ c.in-Some.row.now.width = alike (λ (b : BitVector). b.width) (λ (row : NodeRow). row.width) c.args.registers.now c.args.circuit.now.nodes c.requires.registers c.args.id.0 c.in-Some.row.now c.index-registers-id.result at c.index-registers-id.is in
-    ap widths c.replace.ensures.value ∙ placed_alike (λ (b : BitVector). b.width) (λ (row : NodeRow). row.width) c.args.registers.now c.args.circuit.now.nodes c.requires.registers c.args.id.0 c.in-Some.row.now c.index-registers-id.result c.initial_of-initial.result at c.index-registers-id.is
-    (ap (λ (b : BitVector). b.width) c.initial_of-initial.ensures ∙ initial_width c.args.circuit.now c.in-Some.row.now.width c.in-Some.row.now.node c.index-registers-id.result (c.lawful.ensures.nodes c.args.id.0 c.in-Some.row.now at).1 same)
+    let at : slice_get c.args.circuit.now.nodes c.args.id.0 ≡ Some c.in-Some.row.now = let h = c.in-Some.ensures.lookup
+    in row_read c.args.circuit.now.nodes c.nodes.result.now c.args.id.0 c.in-Some.row.now c.nodes.ensures h.3.0 h.1 in
+    let same : c.index-registers-id.result.width ≡ c.in-Some.row.now.width = alike (λ (b : BitVector). b.width)
+    (λ (row : NodeRow). row.width) c.args.registers.now c.args.circuit.now.nodes c.requires.registers c.args.id.0 c.in-Some.row.now c.index-registers-id.result at c.index-registers-id.is in
+    ap widths c.replace.ensures.value ∙ placed_alike (λ (b : BitVector). b.width) (λ (row : NodeRow). row.width) c.args.registers.now c.args.circuit.now.nodes c.requires.registers
+    c.args.id.0 c.in-Some.row.now c.index-registers-id.result c.initial_of-initial.result at c.index-registers-id.is
+    (ap (λ (b : BitVector). b.width) c.initial_of-initial.ensures ∙ initial_width c.args.circuit.now c.in-Some.row.now.width c.in-Some.row.now.node c.index-registers-id.result
+    (c.lawful.ensures.nodes c.args.id.0 c.in-Some.row.now at).1 same)

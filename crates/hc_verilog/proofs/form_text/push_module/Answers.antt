@@ -18,7 +18,8 @@ returns c =
     written_seven c.push.result _ _ _ _ _ _ _ _ _ _ _ _ _ _ _ _
     (module_by name g _ (module_of c.args.modules.now c.args.form.now.kids) _ c.args.title.now _ _ _ _ _ _
     c.circuit-circuit.ensures
-    (inner_by_marks g _ c.first_place-first.result c.numbered_rows-rows.result.now (subst (AreMarks g) (sym c.as_slice.ensures.value) c.requires.marks) c.first_place-first.ensures c.numbered_rows-rows.ensures.rows)
+    (inner_by_marks g _ c.first_place-first.result c.numbered_rows-rows.result.now (subst (AreMarks g) (sym c.as_slice.ensures.value) c.requires.marks) c.first_place-first.ensures
+    c.numbered_rows-rows.ensures.rows)
     (ap₂ enumerate_from c.first_place-first.ensures c.numbered_rows-rows.ensures.rows)
     (c.memories.ensures ∙ ap (λ x. x.memories) c.circuit-circuit.ensures)
     (c.memories-2.ensures ∙ ap (λ x. x.memories) c.circuit-circuit.ensures)

@@ -25,4 +25,5 @@ pub returns : goal.returns
 returns c =
     let ports = enumerate_from 0 c.args.ports.now in
     let over : length ports ≤ c.loop-number.number = omega (arith, length-enumerate_from 0 c.args.ports.now) in
-    finished _ _ _ (ap (λ l. lines_text (with_commas (map (result_line (result_name (name_by c.args.names.now) c.args.results.now.entries c.args.instance)) l))) (drop_all ports c.loop-number.number over)) c.loop-number.invariant
+    finished _ _ _ (ap (λ l. lines_text (with_commas (map (result_line (result_name (name_by c.args.names.now) c.args.results.now.entries c.args.instance)) l)))
+    (drop_all ports c.loop-number.number over)) c.loop-number.invariant

@@ -9,7 +9,8 @@ use Rattle.hc_weights.proofs.entries.with_entry.Goals as goal
 pub returns-in_ok-weight : goal.returns-in_ok-weight
 returns-in_ok-weight c =
     IfOk-weaker c.sum_of.result (λ (n : ℕ). n ≡ c.args.sum + c.in_ok-weight.weight)
-    (λ (n : ℕ). n + weight_where (drop (c.args.place + 1) c.args.marks.now) (drop (c.args.place + 1) c.args.db.now.entries) ≡ c.args.sum + weight_where (drop c.args.place c.args.marks.now) (drop c.args.place c.args.db.now.entries))
+    (λ (n : ℕ). n + weight_where (drop (c.args.place + 1) c.args.marks.now) (drop (c.args.place + 1) c.args.db.now.entries) ≡ c.args.sum + weight_where
+    (drop c.args.place c.args.marks.now) (drop c.args.place c.args.db.now.entries))
     (λ n e. with_marked c.args.marks.now c.args.db.now.entries c.args.place c.args.sum c.in_ok-weight.weight n c.get.result.now (c.is_marked.ensures.0 c.if-is_marked.true) c.get.ensures
     (c.in_ok-weight.ensures ∙ ap (λ (g : Graph). graph_weight g) c.circuit.ensures) e)
     c.sum_of.ensures

@@ -9,4 +9,5 @@ finish_row-requires-clause-row g c = ready_at _ _ _ c.requires.ready (slice_get-
 
 pub returns-clause-ok : goal.returns-clause-ok
 returns-clause-ok g c =
-    one_finished _ _ _ _ _ _ _ _ c.in-Ok.out (slice_get-get_or c.args.rows.now c.args.place c.index-rows-place.result c.requires.within ∙ ap Some (sym c.index-rows-place.is)) c.in-Ok.ensures.ok c.in_ok-push.ensures.items
+    one_finished _ _ _ _ _ _ _ _ c.in-Ok.out (slice_get-get_or c.args.rows.now c.args.place c.index-rows-place.result c.requires.within ∙ ap Some (sym c.index-rows-place.is))
+    c.in-Ok.ensures.ok c.in_ok-push.ensures.items

@@ -11,7 +11,8 @@ finish_halves-returns-clause-joined g t c =
     let one = c.join-one.ensures.first in
     let two = c.join-one.ensures.second in
     let j = c.join.ensures in
-    is_joined (lock_of c.args.db.now) c.args.first c.args.second _ _ c.join.result c.known_turns_stay_known.ensures.joined one.0 two.0 j.pass (subst (λ l. IsOf l c.join.result) c.lock.ensures j.lock) j.seen.0
+    is_joined (lock_of c.args.db.now) c.args.first c.args.second _ _ c.join.result c.known_turns_stay_known.ensures.joined one.0 two.0 j.pass
+    (subst (λ l. IsOf l c.join.result) c.lock.ensures j.lock) j.seen.0
 
 pub finish_halves-returns-clause-ok : goal.finish_halves-returns-clause-ok
 finish_halves-returns-clause-ok g t c =

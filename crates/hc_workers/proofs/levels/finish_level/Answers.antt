@@ -19,10 +19,12 @@ finish_many-pass-requires-after_bounds g c κs within =
     }
 
 pub write-requires-clause-within : goal.write-requires-clause-within
-write-requires-clause-within g c = level_within c.args.rows.now c.args.height (length c.args.outs.now) c.as_slice-in-Ok-list.result.now (c.as_slice-in-Ok-list.ensures.value ∙ c.in-Ok.ensures) c.requires.many
+write-requires-clause-within g c = level_within c.args.rows.now c.args.height (length c.args.outs.now) c.as_slice-in-Ok-list.result.now
+    (c.as_slice-in-Ok-list.ensures.value ∙ c.in-Ok.ensures) c.requires.many
 
 pub write-requires-clause-many : goal.write-requires-clause-many
 write-requires-clause-many g c =
     level_many (known c.args.pass) (known c.finish_many-pass.result.0) c.args.rows.now (outs_of c.args.outs.now) c.as_slice.result.now c.in-Ok-list.list.items
-    (IfOk-at_ok (λ list. AreFinishedAt (known c.args.pass) (known c.finish_many-pass.result.0) c.args.rows.now (outs_of c.args.outs.now) c.as_slice.result.now (outs_of list.items)) c.in-Ok-list.is c.finish_many-pass.ensures.ok)
+    (IfOk-at_ok (λ list. AreFinishedAt (known c.args.pass) (known c.finish_many-pass.result.0) c.args.rows.now (outs_of c.args.outs.now) c.as_slice.result.now (outs_of list.items))
+    c.in-Ok-list.is c.finish_many-pass.ensures.ok)
     ∙ ap length (c.as_slice.ensures.value ∙ sym c.as_slice-in-Ok-list.ensures.value)

@@ -6,8 +6,10 @@ use Rattle.hc_workers.proofs.levels.highest_of.Goals.{then-highest-row, else-hig
 pub rows-preserved : goal.rows-preserved
 rows-preserved c =
     elim c.if-highest-row.branch [
-      | then-highest-row w ↦ highest_more c.args.rows.now c.rows.row-index c.row-item.result c.rows.highest c.if-highest-row.highest c.rows-test.true c.row-item.is c.rows.invariant (omega arith) (omega arith)
-      | else-highest-row w ↦ highest_more c.args.rows.now c.rows.row-index c.row-item.result c.rows.highest c.if-highest-row.highest c.rows-test.true c.row-item.is c.rows.invariant (omega arith) (omega arith)
+      | then-highest-row w ↦ highest_more c.args.rows.now c.rows.row-index c.row-item.result c.rows.highest c.if-highest-row.highest c.rows-test.true c.row-item.is c.rows.invariant
+          (omega arith) (omega arith)
+      | else-highest-row w ↦ highest_more c.args.rows.now c.rows.row-index c.row-item.result c.rows.highest c.if-highest-row.highest c.rows-test.true c.row-item.is c.rows.invariant
+          (omega arith) (omega arith)
     ]
 
 pub returns : goal.returns

@@ -7,7 +7,8 @@ use Rattle.hc_workers.proofs.levels.write.Goals as goal
 pub put-requires : goal.put-requires
 put-requires c =
     let steps : into_iter_items c.list.out-iterator ≡ c.in-Some.out ∷ into_iter_items c.next.new.self = c.in-Some.ensures.steps.0 in
-    let some : length c.list.yielded < length c.args.list.items = some_left c.list.yielded _ c.args.list.items c.in-Some.out _ steps (c.list.invariant.0 ∙ c.into_iter-out-iterator.ensures.into_iter_gives.0) in
+    let some : length c.list.yielded < length c.args.list.items = some_left c.list.yielded _ c.args.list.items c.in-Some.out _ steps
+    (c.list.invariant.0 ∙ c.into_iter-out-iterator.ensures.into_iter_gives.0) in
     let next : c.list.next ≡ length c.list.yielded = c.list.invariant.1 in
     let many : length c.args.list.items ≡ length c.args.places.now = c.requires.many in
     place_within c.args.outs.now c.list.outs c.args.places.now (take c.list.next c.args.places.now) c.list.next c.list.yielded c.requires.within (omega arith) c.list.invariant.2
@@ -15,7 +16,8 @@ put-requires c =
 pub list-preserved : goal.list-preserved
 list-preserved c =
     let steps : into_iter_items c.list.out-iterator ≡ c.in-Some.out ∷ into_iter_items c.next.new.self = c.in-Some.ensures.steps.0 in
-    let some : length c.list.yielded < length c.args.list.items = some_left c.list.yielded _ c.args.list.items c.in-Some.out _ steps (c.list.invariant.0 ∙ c.into_iter-out-iterator.ensures.into_iter_gives.0) in
+    let some : length c.list.yielded < length c.args.list.items = some_left c.list.yielded _ c.args.list.items c.in-Some.out _ steps
+    (c.list.invariant.0 ∙ c.into_iter-out-iterator.ensures.into_iter_gives.0) in
     let next : c.list.next ≡ length c.list.yielded = c.list.invariant.1 in
     let many : length c.args.list.items ≡ length c.args.places.now = c.requires.many in (
       yields_more c.list.yielded _ _ c.in-Some.out _ steps c.list.invariant.0,

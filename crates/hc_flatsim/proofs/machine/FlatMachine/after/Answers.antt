@@ -7,5 +7,7 @@ use Rattle.hc_flatsim.proofs.machine.FlatMachine.after.Goals as goal
 
 pub returns : goal.returns
 returns c =
-    subst (λ (m : Machine). (p : Port) → slice_get m.graph.ports.outputs c.args.port ≡ Some p → c.index-outputs-port.result ≡ record { width = p.width; value = slice_index (numbers m.after) c.args.port }) c.self.view_is
-    (λ p at. output_is c.self.inside.after.items c.self.inside.circuit.now.ports.outputs c.as_slice-outputs.result.now c.args.port c.index-outputs-port.result p c.self.invariant.after c.as_slice-outputs.ensures.value c.index-outputs-port.is at)
+    subst (λ (m : Machine). (p : Port) → slice_get m.graph.ports.outputs c.args.port ≡ Some p
+    → c.index-outputs-port.result ≡ record { width = p.width; value = slice_index (numbers m.after) c.args.port }) c.self.view_is
+    (λ p at. output_is c.self.inside.after.items c.self.inside.circuit.now.ports.outputs c.as_slice-outputs.result.now c.args.port c.index-outputs-port.result p
+    c.self.invariant.after c.as_slice-outputs.ensures.value c.index-outputs-port.is at)

@@ -10,7 +10,22 @@ use Rattle.hc_flatsim.proofs.machine.FlatMachine.new.Goals as goal
 
 pub invariant_of-result : goal.invariant_of-result
 invariant_of-result c =
-    made (record { graph = c.args.circuit.now; order = planned c.in_ok-plan.plan.items; plan = c.in_ok-plan.plan.items; clocked = c.in_ok-clocked.clocked.items; used = c.in_ok-used.used.items; values = c.in_ok-values.values.items; registers = c.in_ok-registers.registers.items; memories = c.in_ok-memories.memories.items; inputs = c.in_ok-inputs.inputs.items; before = c.in_ok-before.before.items; after = c.in_ok-after.after.items; known = Nothing }) c.lawful.ensures
+    made (record {
+      graph = c.args.circuit.now;
+      order = planned c.in_ok-plan.plan.items;
+      plan = c.in_ok-plan.plan.items;
+      clocked = c.in_ok-clocked.clocked.items;
+      used =
+          c.in_ok-used.used.items;
+      values = c.in_ok-values.values.items;
+      registers = c.in_ok-registers.registers.items;
+      memories = c.in_ok-memories.memories.items;
+      inputs =
+          c.in_ok-inputs.inputs.items;
+      before = c.in_ok-before.before.items;
+      after = c.in_ok-after.after.items;
+      known = Nothing;
+    }) c.lawful.ensures
     (record { checked = c.requires.checked; instances = c.requires.instances; no_loop = c.requires.no_loop })
     c.in-Ok.order.items c.in-Ok.ensures.schedule refl (c.in_ok-plan.ensures ∙ ap (plan_of c.args.circuit.now) c.as_slice.ensures.value)
     (c.in_ok-clocked.ensures ∙ ap (registers_among c.args.circuit.now) c.as_slice-2.ensures.value) c.in_ok-used.ensures.each c.in_ok-used.ensures.once c.in_ok-values.ensures
@@ -22,7 +37,22 @@ invariant_of-result c =
 
 pub returns-clause-start : goal.returns-clause-start
 returns-clause-start c =
-    made_start (record { graph = c.args.circuit.now; order = planned c.in_ok-plan.plan.items; plan = c.in_ok-plan.plan.items; clocked = c.in_ok-clocked.clocked.items; used = c.in_ok-used.used.items; values = c.in_ok-values.values.items; registers = c.in_ok-registers.registers.items; memories = c.in_ok-memories.memories.items; inputs = c.in_ok-inputs.inputs.items; before = c.in_ok-before.before.items; after = c.in_ok-after.after.items; known = Nothing }) c.lawful.ensures
+    made_start (record {
+      graph = c.args.circuit.now;
+      order = planned c.in_ok-plan.plan.items;
+      plan = c.in_ok-plan.plan.items;
+      clocked = c.in_ok-clocked.clocked.items;
+      used =
+          c.in_ok-used.used.items;
+      values = c.in_ok-values.values.items;
+      registers = c.in_ok-registers.registers.items;
+      memories = c.in_ok-memories.memories.items;
+      inputs =
+          c.in_ok-inputs.inputs.items;
+      before = c.in_ok-before.before.items;
+      after = c.in_ok-after.after.items;
+      known = Nothing;
+    }) c.lawful.ensures
     (record { checked = c.requires.checked; instances = c.requires.instances; no_loop = c.requires.no_loop })
     c.in-Ok.order.items c.in-Ok.ensures.schedule refl (c.in_ok-plan.ensures ∙ ap (plan_of c.args.circuit.now) c.as_slice.ensures.value)
     (c.in_ok-clocked.ensures ∙ ap (registers_among c.args.circuit.now) c.as_slice-2.ensures.value) c.in_ok-used.ensures.each c.in_ok-used.ensures.once c.in_ok-values.ensures

@@ -3,7 +3,7 @@ use Rattle.std.proofs.Common.{ℕ, ◌≡◌, Bool, true, false, List, refl, sub
 use Rattle.std.specs.Prelude.{Option, Result, Ok, Err, OnOk}
 use Rattle.hc_words.specs.declared.job.Job.{Job}
 use Rattle.hc_words.specs.Jobs.{IsJob}
-use Rattle.hc_cli.specs.Clauses.{AskForInput, EndsInput, EndsRead}
+use Rattle.hc_cli.specs.Clauses.{EndsInput, EndsRead}
 use Rattle.hc_cli.specs.Due.{reads_input}
 
 -- what is so where a command reads no input is so where the words do not ask for it

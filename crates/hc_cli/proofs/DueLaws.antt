@@ -18,7 +18,7 @@ use Rattle.hc_words.specs.Jobs.{HasNoJob, IsJob}
 use Rattle.hc_signal.specs.Tree.{Tree, IsWhole, graph}
 use Rattle.hc_signal.specs.Occurrences.{HasCombLoop}
 use Rattle.hc_lang.specs.declared.tree.Design.{Design}
-use Rattle.hc_lang.specs.Reads.{Answers, AtMostOne, NotBoth, OneFault, ParsesTo}
+use Rattle.hc_lang.specs.Reads.{Answers, AtMostOne, NotBoth, OneFault}
 use Rattle.hc_bench.specs.declared.kinds.Step.{Step}
 use Rattle.hc_bench.specs.Listing.{CycleRow}
 use Rattle.hc_bench.specs.Answers.{Refuses}

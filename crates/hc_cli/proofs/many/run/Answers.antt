@@ -1,6 +1,6 @@
 use Rattle.std.proofs.Common.{map, string_bytes, Global, ◌∙◌}
 use Rattle.hc_cli.specs.Histories.{IsHistoryOf}
-use Rattle.hc_cli.proofs.Ends.{cut_end, cut_in_order, done_in_order, legal_end, settled_end, status_through}
+use Rattle.hc_cli.proofs.Ends.{cut_end, legal_end, settled_end, status_through}
 use Rattle.hc_cli.proofs.many.run.Goals as goal
 
 pub returns-clause-front : goal.returns-clause-front

@@ -1,9 +1,8 @@
 use Rattle.std.proofs.Common.{subst}
-use Rattle.std.proofs.lemmas.Result.{IfOk-weaker}
 use Rattle.hc_cli.specs.Histories.{IsHistoryInOrder}
 use Rattle.hc_cli.specs.Read.{IsReadFor}
 use Rattle.hc_cli.specs.declared.read.Read.{Read}
-use Rattle.hc_cli.proofs.DueLaws.{parsed_input, told_input}
+use Rattle.hc_cli.proofs.DueLaws.{told_input}
 use Rattle.hc_cli.proofs.Kept.{no_calls_in_order}
 use Rattle.hc_cli.proofs.one.prepare_text.Goals as goal
 

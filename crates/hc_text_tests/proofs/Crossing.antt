@@ -8,6 +8,7 @@ use Rattle.hc_sigtext.specs.contracts.tree.Sig as Sig
 use Rattle.hc_lines.specs.contracts.tree.Stmt as Stmt
 use Rattle.hc_lang.specs.contracts.tree.Head as Head
 use Rattle.hc_lang.specs.contracts.tree.CircuitText as CircuitText
+use Rattle.hc_lang.specs.contracts.circuits.Circuits as Circuits
 use Rattle.hc_lang.specs.contracts.tree.TopLine as TopLine
 use Rattle.hc_lang.specs.contracts.tree.BenchLine as BenchLine
 use Rattle.hc_lang.specs.contracts.tree.Design as Design
@@ -75,8 +76,8 @@ top_send = search (num_send, sendable, crosses) depth 60
 bench_send : IsSend BenchLine.the_row
 bench_send = search (sendable, crosses) depth 60
 
-circuits_send : IsSend (ItemList.the_field CircuitText.the_row).row
-circuits_send = search (circuit_send, sendable, crosses) depth 60
+circuits_send : IsSend (Circuits.the_field).row
+circuits_send = search (circuit_send, sendable, crosses) depth 100
 
 benches_send : IsSend (ItemList.the_field BenchLine.the_row).row
 benches_send = search (bench_send, sendable, crosses) depth 60
@@ -90,8 +91,8 @@ top_sync = search (num_sync, sendable, crosses) depth 60
 bench_sync : IsSync BenchLine.the_row
 bench_sync = search (sendable, crosses) depth 60
 
-circuits_sync : IsSync (ItemList.the_field CircuitText.the_row).row
-circuits_sync = search (circuit_sync, sendable, crosses) depth 60
+circuits_sync : IsSync (Circuits.the_field).row
+circuits_sync = search (circuit_sync, sendable, crosses) depth 100
 
 benches_sync : IsSync (ItemList.the_field BenchLine.the_row).row
 benches_sync = search (bench_sync, sendable, crosses) depth 60

@@ -1,6 +1,8 @@
 ghost use Rattle.std.specs.Prelude.{◌≡◌, ℕ, ◌+◌, ◌<◌, ◌≤◌, List, [], ◌∷◌, ◌++◌, length, map, replicate, slice_get, slice_index_or, slice_range, slice_set, IfOk, OnOk, OnErr, Some};
 ghost use Rattle.hc_rows.specs.Rows.{AreStarts, flat, number_of, row_at, with_item};
 
+mod row_mut;
+
 use hc_fault::NoMemory;
 use std::alloc::Global;
 use std::marker::Model;

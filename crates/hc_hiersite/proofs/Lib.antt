@@ -1,0 +1,6 @@
+pub mod Connected
+pub mod Steps
+pub mod Standing
+pub mod Fits
+pub mod Shown
+pub mod Settled

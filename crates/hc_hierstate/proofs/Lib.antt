@@ -1,0 +1,11 @@
+pub mod PathsPlaced
+pub mod Differ
+pub mod Each
+pub mod Own
+pub mod Held
+pub mod Changed
+pub mod Stated
+pub mod Plain
+pub mod Started
+pub mod Pushed
+pub mod Stepped

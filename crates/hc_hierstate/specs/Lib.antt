@@ -1,0 +1,4 @@
+pub mod Paths
+pub mod States
+pub mod Changes
+pub mod Circuits
